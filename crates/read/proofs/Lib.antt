@@ -1,0 +1,4 @@
+pub mod Items
+pub mod State
+pub mod Outcome
+pub mod Filling
