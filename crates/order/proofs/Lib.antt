@@ -1,0 +1,2 @@
+-- `Outcome`: the two ways the call ends, and that it has one outcome.
+pub mod Outcome
