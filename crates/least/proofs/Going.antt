@@ -1,21 +1,23 @@
 -- The rounds together. Their definition keeps no noted division and takes the better of a round and the rest; the code takes the better of
--- what it noted and a round. Both are the same, since taking the better is associative. A value of 0 is never replaced. Assumes nothing.
+-- what it noted and a round. Both are the same, since taking the better is associative. A value that no division is below is never replaced.
+-- Assumes nothing.
 use mathlib.Core.Path.{_≡_, refl, sym, ap, _∙_, subst}
-use mathlib.Core.Bool.{false}
 use mathlib.Core.List.{List}
-use Prim.Native.Nat.{ℕ, zero, suc, _-_, _≤_}
+use Prim.Native.Nat.{ℕ, zero, suc, _-_, _≤_, _<_}
 use native.Mathlib.Omega.{arith}
 use Rattle.meaning.specs.Links.{LinkList, links}
-use Rattle.meaning.specs.Split.{Split, sizeOf, group, merged, noted, better, rounds, leastOf, word}
-use Rattle.laws.specs.Sums.{sum-zero}
+use Rattle.meaning.specs.Order.{all}
+use Rattle.meaning.specs.Split.{Split, group, merged, noted, better, rounds, leastOf}
 use Rattle.laws.specs.Rows.{cut-links}
 use Rattle.laws.specs.Accept.{links-most}
 use Rattle.laws.specs.Rounds.{better-now, better-assoc}
-use Rattle.method.specs.Least.{lastOf, beforeOf}
-use Rattle.table.specs.Table.{mark}
+use Rattle.method.specs.Least.{Groups, Real, accepted-ends, rounds-real, lastOf, beforeOf}
+use Rattle.method.specs.Division.{Division}
+use Rattle.method.specs.Question.{NoneBelow}
 use Rattle.least.specs.declared.Noted.{Noted}
-use Rattle.least.specs.Rounds.{Grouped, Notes, After}
+use Rattle.least.specs.Rounds.{Grouped, Notes, After, above}
 use Rattle.least.proofs.Noting.{better-yes, better-no}
+use Rattle.least.proofs.Grouping.{in-groups}
 
 -- the answer, when p is noted and `count` groups are left
 abbrev rest : LinkList → ℕ → Split → (ℕ → ℕ) → ℕ → Split
@@ -30,10 +32,6 @@ pub record Going (L : LinkList) (start n count : ℕ) (m label : List ℕ) (r : 
   pub notes : Notes n p r
   pub same : leastOf L start ≡ rest L start p g count
 
--- before the first round a value above all is noted, of an empty side
-abbrev above : Split
-above = record { value = mark; side = λ v. false }
-
 rounds-low : (L : LinkList) (start j : ℕ) (g : ℕ → ℕ) → rounds L start j g .value ≤ links L
 unfolding rounds
 rounds-low L start zero g = cut-links L (group g (lastOf L start g 0))
@@ -44,21 +42,14 @@ rounds-low L start (suc j) g =
       cut-links L (group g (lastOf L start g (suc j))),
     )
 
-none-word : (n i : ℕ) → 0 ≡ word n (λ v. false) i
-unfolding word
-none-word n i = sym (sum-zero n (λ v. 0) (λ v h. refl))
-
-none-size : (n : ℕ) → 0 ≡ sizeOf n (λ v. false)
-none-size n = sym (sum-zero n (λ v. 0) (λ v h. refl))
-
-pub going-first : {L : LinkList} {n : ℕ} {m label : List ℕ} (start : ℕ) → Grouped L (λ v. v) n n m label → 2 ≤ n
-    → Going L start n n m label (record { value = mark; low = 0; high = 0; size = 0 })
-going-first {L} {n} {m} {label} start s two =
+pub going-first : {L : LinkList} {n : ℕ} {m label : List ℕ} {r : Noted} (start : ℕ) → Grouped L (λ v. v) n n m label → 2 ≤ n → Notes n above r
+    → Going L start n n m label r
+going-first {L} {n} {m} {label} {r} start s two notes =
     record {
       g = λ v. v;
       p = above;
       grouped = s;
-      notes = record { value-is = refl; low-is = none-word n 0; high-is = none-word n 1; size-is = none-size n };
+      notes = notes;
       same = first (n - 2) (omega arith);
     }
   where
@@ -102,16 +93,27 @@ going-round {L} {start} {n} {count} {m} {label} {m′} {label′} {r} {r′} s t
     subst (λ k. Going L start n k m′ label′ r′) less
     (going-on s₂ (round L (s₂ .g) j (s₂ .p) many (subst (λ k. Grouped L (s₂ .g) n k m label) (sym many) (s₂ .grouped)) (s₂ .notes)))
 
--- the rounds may end when 0 is noted, and they end when one group is left
-pub going-zero : {L : LinkList} {start n count : ℕ} {m label : List ℕ} {r : Noted} → Going L start n count m label r → r .value ≡ 0
-    → Notes n (leastOf L start) r
-going-zero {L} {start} {n} {count} {m} {label} {r} s z = rw (s .same ∙ kept count) (s .notes)
-  where
-    kept : (k : ℕ) → rest L start (s .p) (s .g) k ≡ s .p
-    kept zero = refl
-    kept (suc zero) = refl
-    kept (suc (suc j)) = better-no (s .p) (rounds L start j (s .g)) (omega (arith, s .notes .value-is))
+-- a real split is a division
+pub real-division : {L : LinkList} {start : ℕ} {p : Split} → Real L all start p → Division (L .nodes) (p .side)
+real-division real =
+    let i = real .parts .inside in
+    let o = real .parts .outside in
+    record { inside = (i .0, i .1, i .3); outside = (o .0, o .1, o .3) }
 
+-- the rounds may end when no division is below what is noted: whatever they would answer is a division
+pub going-low : {L : LinkList} {start n count : ℕ} {m label : List ℕ} {r : Noted} → Going L start n count m label r → start < n
+    → (low : ℕ) → NoneBelow L low → r .value ≤ low → Notes n (leastOf L start) r
+going-low {L} {start} {n} {count} {m} {label} {r} s inside low none le = rw (s .same ∙ kept count (in-groups (s .grouped))) (s .notes)
+  where
+    kept : (k : ℕ) → Groups (L .nodes) all k (s .g) → rest L start (s .p) (s .g) k ≡ s .p
+    kept zero gs = refl
+    kept (suc zero) gs = refl
+    kept (suc (suc j)) gs =
+        let acc = s .grouped .accepted in
+        let real = rounds-real L all (accepted-ends L acc) start (omega (arith, s .grouped .nodes)) refl j (s .g) gs in
+        better-no (s .p) (rounds L start j (s .g)) (omega (arith, s .notes .value-is, real .value-of, none (rounds L start j (s .g) .side) (real-division real)))
+
+-- and they end when one group is left
 pub going-last : {L : LinkList} {start n count : ℕ} {m label : List ℕ} {r : Noted} → Going L start n count m label r → count ≤ 1
     → Notes n (leastOf L start) r
 going-last {L} {start} {n} {count} {m} {label} {r} s one = rw (s .same ∙ kept count one) (s .notes)

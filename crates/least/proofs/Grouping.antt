@@ -24,10 +24,10 @@ use Rattle.laws.specs.Accept.{links-most}
 use Rattle.laws.specs.Rounds.{moved}
 use Rattle.method.specs.Least.{Groups, Ends, accepted-ends, all-groups, lastOf, beforeOf, round-groups, noted-value, t-below, p-below, p-t}
 use Rattle.sides.specs.Bits.{labelled}
-use Rattle.table.specs.Table.{cell, Holds, Ran, Ready, mark}
+use Rattle.table.specs.Table.{cell, Holds, Ran, Ready, mark, Numbered}
 use Rattle.least.specs.declared.Last.{Last}
 use Rattle.least.specs.declared.Noted.{Noted}
-use Rattle.least.specs.Rounds.{Numbered, Light, Folded, Relabelled, Opened, Grouped, Ended, Notes, After}
+use Rattle.least.specs.Rounds.{Light, Folded, Relabelled, Opened, Grouped, Ended, Notes, After}
 use Rattle.least.proofs.Merging.{folded-holds}
 
 -- the first: every node its own group

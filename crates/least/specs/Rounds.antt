@@ -2,6 +2,7 @@
 -- division noted so far. Groups are those of `meaning` and `method`: g gives each node the number of its group.
 use Prim.Native.Nat.{ℕ, suc, _+_, _*_, _≤_, _<_}
 use mathlib.Core.Path.{_≡_}
+use mathlib.Core.Bool.{false}
 use mathlib.Core.List.{List}
 use lib.ListN.{length, getD}
 use lib.Dec.{eqb}
@@ -16,10 +17,6 @@ use Rattle.least.specs.declared.Last.{Last}
 use Rattle.least.specs.declared.Noted.{Noted}
 
 -- ---- labels
-
--- every place holds its own number
-abbrev pub Numbered : List ℕ → Type 0
-Numbered label = (v : ℕ) → v < length label → getD label v 0 ≡ v
 
 -- the scores of the first n nodes: a live group's number has the mark
 pub record Opened (n : ℕ) (label score score′ : List ℕ) : Type 0 where
@@ -107,6 +104,10 @@ pub record Notes (n : ℕ) (p : Split) (r : Noted) : Type 0 where
   pub low-is : r .low ≡ word n (p .side) 0
   pub high-is : r .high ≡ word n (p .side) 1
   pub size-is : r .size ≡ sizeOf n (p .side)
+
+-- before the first round a value above all is noted, of an empty side
+abbrev pub above : Split
+above = record { value = mark; side = λ v. false }
 
 -- what a round with j + 2 groups leaves: one group less, and the better division noted
 pub record After (L : LinkList) (s : ℕ) (g : ℕ → ℕ) (j n : ℕ) (p : Split) (m label : List ℕ) (r : Noted) : Type 0 where

@@ -15,9 +15,10 @@ ghost use Rattle.meaning.specs.Calls.{leastAnswer, fewerAnswer};
 ghost use Rattle.answers.specs.Paper.{partedPaper};
 ghost use Rattle.laws.specs.Accept.{Even};
 ghost use Rattle.laws.specs.Rounds.{moved};
+ghost use Rattle.method.specs.Question.{NoneBelow};
 ghost use Rattle.sides.specs.Bits.{labelled};
 ghost use Rattle.table.specs.Table.{mark};
-ghost use Rattle.least.specs.Rounds.{Numbered, Opened, Relabelled, cellAt, Light, CellFolded, RowFolded, NodeFolded, ColumnFolded, Folded, Grouped, Ended, Notes, After};
+ghost use Rattle.least.specs.Rounds.{Opened, Relabelled, cellAt, Light, CellFolded, RowFolded, NodeFolded, ColumnFolded, Folded, Grouped, Ended, Notes, After, above};
 
 // ---- the groups
 
@@ -25,18 +26,6 @@ fn wide(x: u16) -> usize
     ensures { λ r. ⌜ r ≡ x ⌝ }
 {
     x as usize
-}
-
-// Every node its own group.
-fn number(label: &mut [u16])
-    requires { ⌜ length (now label) ≤ 65536 ⌝ }
-    ensures { λ _. ⌜ Numbered (now (label .exit)) ⌝ }
-{
-    let mut v: usize = 0;
-    while v < label.len() {
-        label[v] = v as u16;
-        v += 1;
-    }
 }
 
 // The mark of the node v, which is in this group: a group has it at its number.
@@ -238,22 +227,29 @@ fn round(
 
 // ---- all rounds
 
-// Every round until one group is left, or a value of 0, which none can replace.
-fn rounds(n: usize, start: usize, m: &mut [u32], label: &mut [u16]) -> Noted
-    requires { ⌜ ((L : LinkList) × Grouped L (λ v. v) n n (now m) (now label)) ⌝ }
-    requires { ⌜ (2 ≤ n) × (start < n) ⌝ }
-    ensures { λ r. ⌜ ((L : LinkList) → Grouped L (λ v. v) n n (now (m .entry)) (now (label .entry)) → Notes n (leastOf L start) r) ⌝ }
+// Nothing noted yet: a value above all.
+fn nothing() -> Noted
+    ensures { λ r. ⌜ ((n : ℕ) → Notes n above r) ⌝ }
 {
-    let mut noted = Noted {
+    Noted {
         value: table::OPEN,
         low: 0,
         high: 0,
         size: 0,
-    };
+    }
+}
+
+// Every round until one group is left, or a value that no division is below, which none can replace.
+fn rounds(n: usize, start: usize, low: u32, m: &mut [u32], label: &mut [u16]) -> Noted
+    requires { ⌜ ((L : LinkList) × Grouped L (λ v. v) n n (now m) (now label)) ⌝ }
+    requires { ⌜ (2 ≤ n) × (start < n) ⌝ }
+    ensures { λ r. ⌜ ((L : LinkList) → Grouped L (λ v. v) n n (now (m .entry)) (now (label .entry)) → NoneBelow L low → Notes n (leastOf L start) r) ⌝ }
+{
+    let mut noted = nothing();
     let mut count = n;
     while 1 < count {
         noted = round(n, count, start, m, label, noted);
-        if noted.value == 0 {
+        if noted.value <= low {
             return noted;
         }
         count -= 1;
@@ -261,18 +257,27 @@ fn rounds(n: usize, start: usize, m: &mut [u32], label: &mut [u16]) -> Noted
     noted
 }
 
-// The least split of an accepted list of two or more nodes.
+// The least split of an accepted list of two or more nodes. Most often it is the first round's, which stands where no division is below it.
 fn split(n: usize, a: &[u16], b: &[u16], w: &[u16]) -> Noted
     requires { ⌜ Accepted (listOf (given n (now a) (now b) (now w))) ⌝ }
     requires { ⌜ Even (given n (now a) (now b) (now w)) ⌝ }
     requires { ⌜ 2 ≤ n ⌝ }
     ensures { λ r. ⌜ Notes n (leastOf (listOf (given n (now (a .entry)) (now (b .entry)) (now (w .entry)))) 0) r ⌝ }
 {
-    let mut m = [0u32; 16384];
     let mut label = [0u16; 128];
+    table::number(&mut label);
+    let mut order = [0u16; 128];
+    let mut back = [0u32; 128];
+    table::order_of(n, a, b, w, &mut order, &mut back);
+    let last = order[n - 1];
+    let value = back[n - 1];
+    let low = table::floor(n, a, b, w, &mut order, &mut back);
+    if value <= low {
+        return note(nothing(), &label[..n], last, value);
+    }
+    let mut m = [0u32; 16384];
     table::fill(a, b, w, &mut m);
-    number(&mut label);
-    rounds(n, 0, &mut m, &mut label)
+    rounds(n, 0, low, &mut m, &mut label)
 }
 
 // ---- the calls

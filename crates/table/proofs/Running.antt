@@ -76,7 +76,7 @@ module _ (L : LinkList) (live : ℕ → Bool) (n count start : ℕ) (m score₀ 
     fresh h = not-true (has o x) (and-right (live x) (not (has o x)) (run .unplaced h))
 
     -- a node's score with its place in row x
-    light : length o < count → (v : ℕ) → v < n → getD score v 0 + getD m (x * 128 + v) 0 < 4294967296
+    light : length o < count → (v : ℕ) → v < n → getD score v 0 + getD m (x * 128 + v) 0 < 2147483648
     light h v l =
         omega (
           arith,

@@ -1,19 +1,20 @@
 -- The pass of `add_row`: below v each score has its row's number added, from v on all is as before, and `top` is the highest so far,
--- which is 0 at first and some node's score as soon as it is not.
-use Prim.Native.Nat.{ℕ, _+_, _-_, _*_, _≤_, _<_}
+-- which is 0 at first and some node's score as soon as it is not. Then what `skip` and `first_of` passed, and placing a node.
+use Prim.Native.Nat.{ℕ, zero, suc, _+_, _-_, _*_, _≤_, _<_}
 use mathlib.Core.Path.{_≡_, refl, sym, _∙_}
+use mathlib.Core.Bool.{false}
 use mathlib.Core.Logic.{_⊎_, ⊎-elim}
 use mathlib.Core.List.{List}
 use native.Mathlib.Omega.{arith}
 use native.Mathlib.Decide.{decLt}
 use borrow.Author.Count.{below-more}
-use borrow.Author.Tests.{eq-eqb, ne-eqb}
+use borrow.Author.Tests.{eqb-false, eq-eqb, ne-eqb}
 use lib.ListN.{length, getD, set, take, drop, length-set}
 use lib.Seq.{getD-set-same, getD-set-other, getD-take, getD-drop}
 use lib.Dec.{eqb}
 use Rattle.meaning.specs.Sums.{on}
-use Rattle.laws.specs.Bools.{cases-eq}
-use Rattle.table.specs.Table.{mark, Added, Placed}
+use Rattle.laws.specs.Bools.{cases-eq, or-false-left, or-false-right}
+use Rattle.table.specs.Table.{mark, Added, among, noneBefore, Placed}
 
 pub record Adding (row score₀ score : List ℕ) (top v : ℕ) : Type 0 where
   pub size : length score ≡ length score₀
@@ -25,13 +26,14 @@ pub record Adding (row score₀ score : List ℕ) (top v : ℕ) : Type 0 where
 pub adding-none : (row score : List ℕ) → Adding row score score 0 0
 adding-none row score = record { size = refl; more = λ u h. absurd (omega arith); rest = λ u h. refl; most = λ u h. omega arith; reached = λ h. absurd (omega arith) }
 
--- where none before x passes, whatever passes is x or later
-pub not-before : {P : ℕ → Type 0} (x v : ℕ) → ((k : ℕ) → k < x → P k → ⊥) → P v → x ≤ v
-not-before {P} x v none h = go (decLt v x)
+-- where each sum is below 2^31, so are the highest so far and the next sum
+pub adding-low : {row score₀ score : List ℕ} {top v n : ℕ} → Adding row score₀ score top v → v < n
+    → ((u : ℕ) → u < n → getD score₀ u 0 + getD row u 0 < 2147483648) → (top < 2147483648) × (getD score v 0 + getD row v 0 < 2147483648)
+adding-low {top = top} {v} a h low = (go (decLt 0 top), omega (arith, a .rest v (omega arith), low v h))
   where
-    go : Dec (v < x) → x ≤ v
-    go (yes l) = absurd (none v l h)
-    go (no l) = omega arith
+    go : Dec (0 < top) → top < 2147483648
+    go (yes pos) = let w = a .reached pos in omega (arith, a .more (w .0) (w .1), w .1, w .2, low (w .0) (omega (arith, w .1)))
+    go (no none) = omega arith
 
 -- one more node, with the highest raised or kept
 pub adding-more : {row score₀ score : List ℕ} {top v : ℕ} (top′ : ℕ) → Adding row score₀ score top v → v < length score
@@ -64,6 +66,23 @@ adding-done {row} {score₀} {score} {top} {n} a = record { size = a .size; more
     go : 0 < n → Dec (0 < top) → (u : ℕ) × (u < n) × (getD score u 0 ≡ top)
     go some (yes h) = a .reached h
     go some (no h) = (0, some, omega (arith, a .most 0 some))
+
+-- ---- looking for the first node with a score
+
+-- where none before x passes, whatever passes is x or later
+pub not-before : {P : ℕ → Type 0} (x v : ℕ) → ((k : ℕ) → k < x → P k → ⊥) → P v → x ≤ v
+not-before {P} x v none h = go (decLt v x)
+  where
+    go : Dec (v < x) → x ≤ v
+    go (yes l) = absurd (none v l h)
+    go (no l) = omega arith
+
+-- no node before v has the score, and none from v to v + k: so none before v + suc k
+pub none-more : (score : List ℕ) (top v k : ℕ) → noneBefore score top v → among score top v k ≡ false → noneBefore score top (v + suc k)
+none-more score top v zero none e = below-more _ v none (eqb-false _ _ e)
+none-more score top v (suc k) none e =
+    let before = none-more score top v k none (or-false-left (among score top v k) _ e) in
+    λ u l. below-more _ (v + suc k) before (eqb-false _ _ (or-false-right (among score top v k) _ e)) u (omega arith)
 
 -- ---- placing a node
 

@@ -1,7 +1,7 @@
 -- The dense table of a list's cables, what a run of the order needs to begin, and what each function of the crate leaves.
-use Prim.Native.Nat.{ℕ, _+_, _-_, _*_, _≤_, _<_}
+use Prim.Native.Nat.{ℕ, zero, suc, _+_, _-_, _*_, _≤_, _<_}
 use mathlib.Core.Path.{_≡_}
-use mathlib.Core.Bool.{Bool, true, not}
+use mathlib.Core.Bool.{Bool, true, not, _||_}
 use mathlib.Core.List.{List}
 use lib.ListN.{length, getD}
 use lib.Dec.{eqb}
@@ -63,14 +63,23 @@ pub record Added (n : ℕ) (row score score′ : List ℕ) (top : ℕ) : Type 0 
   pub most : (v : ℕ) → v < n → getD score′ v 0 ≤ top
   pub reached : 0 < n → (v : ℕ) × (v < n) × (getD score′ v 0 ≡ top)
 
--- x may be placed: it has its mark, and no score overflows when x's row is added
+-- whether one of the scores from v to v + k is `top`
+abbrev pub among : List ℕ → ℕ → ℕ → ℕ → Bool
+among score top v zero = eqb (getD score v 0) top
+among score top v (suc k) = among score top v k || eqb (getD score (v + suc k) 0) top
+
+-- no node before v has the score `top`
+abbrev pub noneBefore : List ℕ → ℕ → ℕ → Type 0
+noneBefore score top v = (u : ℕ) → u < v → getD score u 0 ≡ top → ⊥
+
+-- x may be placed: it has its mark, and every score stays below 2^31 when x's row is added
 pub record Placeable (n x : ℕ) (m score : List ℕ) : Type 0 where
   pub few-nodes : n ≤ 128
   pub inside : x < n
   pub table-size : length m ≡ 16384
   pub score-size : length score ≡ 128
   pub marked : mark ≤ getD score x 0
-  pub light : (v : ℕ) → v < n → getD score v 0 + getD m (x * 128 + v) 0 < 4294967296
+  pub light : (v : ℕ) → v < n → getD score v 0 + getD m (x * 128 + v) 0 < 2147483648
 
 -- x lost its mark and its row was added; among the first n scores r is the first of the highest
 pub record Placed (n x : ℕ) (m score score′ : List ℕ) (r : ℕ) : Type 0 where
@@ -79,3 +88,7 @@ pub record Placed (n x : ℕ) (m score score′ : List ℕ) (r : ℕ) : Type 0 w
   pub inside : r < n
   pub most : (v : ℕ) → v < n → getD score′ v 0 ≤ getD score′ r 0
   pub first : (v : ℕ) → v < r → getD score′ v 0 < getD score′ r 0
+
+-- every place holds its own number
+abbrev pub Numbered : List ℕ → Type 0
+Numbered label = (v : ℕ) → v < length label → getD label v 0 ≡ v

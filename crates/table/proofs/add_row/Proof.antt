@@ -1,10 +1,13 @@
--- `table::add_row` meets its contract. The loop's invariant is `Adding`: the pass so far.
+-- `table::add_row` meets its contract. The loop's invariant is `Adding`: the pass so far. The highest so far is 0 or one of the sums, so
+-- it may be compared with the next by `below`.
 use Prim.Native.Nat.{_-_, _≤_}
-use mathlib.Core.Path.{_≡_}
+use mathlib.Core.Path.{_≡_, sym, _∙_}
 use mathlib.Core.Logic.{inl, inr, ⊎-elim}
+use native.Mathlib.Nat.{le-of-lt}
 use native.Mathlib.Omega.{arith}
 use borrow.Author.Needs.{needs}
-use Rattle.table.proofs.Scores.{Adding, adding-none, adding-more, adding-done}
+use borrow.Author.Tests.{ltb-true, ltb-false}
+use Rattle.table.proofs.Scores.{Adding, adding-none, adding-low, adding-more, adding-done}
 use Rattle.table.proofs.add_row.Statement.{statement}
 use Rattle.table.proofs.add_row.Tie as tie
 
@@ -31,14 +34,19 @@ shared-slice-read-s c = search needs
 
 add-s : tie.Need-add-s Inv-loop μ-loop
 add-s c =
-    let l = c .before .before .before .loop in
-    omega (arith, l .inv .1 .rest (l .v) (omega arith), c .before .before .before .before .pre .1 (l .v) (omega arith))
+    let l = c .before .before .before in
+    omega (arith, adding-low (l .loop .inv .1) (omega arith) (l .before .before .before .pre .1) .1)
 
 mul-score : tie.Need-mul-score Inv-loop μ-loop
 mul-score c = search needs
 
 slice-write-score : tie.Need-slice-write-score Inv-loop μ-loop
 slice-write-score c = search needs
+
+below-requires : tie.Need-below-requires Inv-loop μ-loop
+below-requires c κs =
+    let l = c .before .before .before in
+    adding-low (l .loop .inv .1) (omega arith) (l .before .before .before .pre .1)
 
 add-v : tie.Need-add-v Inv-loop μ-loop
 add-v c = search needs
@@ -47,11 +55,16 @@ loop-less : tie.Need-loop-less Inv-loop μ-loop
 loop-less c = search needs
 
 loop-again : tie.Need-loop-again Inv-loop μ-loop
-loop-again c = (
-  omega arith,
-  adding-more (c .if1 .top) (c .before .before .before .before .loop .inv .1) (omega arith)
-      (⊎-elim (λ w. inl (omega arith, w .1)) (λ w. inr (omega arith, w .1)) (c .if1 .came)),
-)
+loop-again c =
+    let l = c .before .before .before .before .before in
+    let is = sym (c .before .below .ensures) in (
+      omega arith,
+      adding-more (c .if1 .top) (l .loop .inv .1) (omega arith)
+          (⊎-elim
+          (λ w. inl (le-of-lt (ltb-true _ _ (is ∙ w .0 .taken)), w .1))
+          (λ w. inr (ltb-false _ _ (is ∙ w .0 .left), w .1))
+          (c .if1 .came)),
+    )
 
 same-length : tie.Need-same-length Inv-loop μ-loop
 same-length c = c .before .loop .inv .1 .size
@@ -59,7 +72,7 @@ same-length c = c .before .loop .inv .1 .size
 returns : tie.Need-returns Inv-loop μ-loop
 returns c =
     let l = c .before .loop in
-    let end : l .v ≡ c .before .before .args .n = omega arith in
+    let end : l .v ≡ c .before .before .before .before .args .n = omega arith in
     adding-done (rw end at (l .inv .1))
 
 pub add-row-spec : {M : Type 1} → statement M
@@ -76,6 +89,7 @@ add-row-spec =
     add-s
     mul-score
     slice-write-score
+    below-requires
     add-v
     loop-less
     loop-again

@@ -1,20 +1,23 @@
--- `table::first_of` meets its contract. The loop's invariant: no node passed has the score; so where some node has it, either the node
--- looked at has it, or it is the last node, the only one left.
-use Prim.Native.Nat.{ℕ, _-_, _≤_, _<_}
+-- `table::first_of` meets its contract. The loop's invariant: no node passed has the score, as `skip` says of the nodes that it passed; so
+-- where some node has it, either the node looked at has it, or it is the last node, the only one left.
+use Prim.Native.Nat.{_-_, _≤_, _<_}
 use mathlib.Core.Path.{_≡_}
 use native.Mathlib.Omega.{arith}
 use borrow.Author.Needs.{needs}
 use borrow.Author.Count.{below-more}
-use lib.ListN.{getD}
+use Rattle.table.specs.Table.{noneBefore}
 use Rattle.table.proofs.Scores.{not-before}
 use Rattle.table.proofs.first_of.Statement.{statement}
 use Rattle.table.proofs.first_of.Tie as tie
 
 abbrev Inv-loop : tie.InvT-loop
-Inv-loop score top n v₀ v = (v < n) × ((k : ℕ) → k < v → getD score k 0 ≡ top → ⊥)
+Inv-loop score top n v₀ v = (v < n) × noneBefore score top v
 
 abbrev μ-loop : tie.MeasureT-loop
 μ-loop score top n v₀ v = n - v
+
+skip-requires : tie.Need-skip-requires Inv-loop μ-loop
+skip-requires c κs = search needs
 
 loop-holds : tie.Need-loop-holds Inv-loop μ-loop
 loop-holds c = search needs
@@ -52,4 +55,4 @@ returns-2 c = (
 pub first-of-spec : {M : Type 1} → statement M
 first-of-spec =
     tie.close
-    (tie.spec Inv-loop μ-loop loop-holds sub-loop mul-if1 shared-slice-read-if1 returns add-v loop-less loop-again returns-2)
+    (tie.spec Inv-loop μ-loop skip-requires loop-holds sub-loop mul-if1 shared-slice-read-if1 returns add-v loop-less loop-again returns-2)

@@ -1,12 +1,12 @@
--- `least::number` meets its contract: below v every place holds its own number. Assumes nothing.
+-- `table::number` meets its contract: below v every place holds its own number. Assumes nothing.
 use mathlib.Core.Path.{refl}
 use Prim.Native.Nat.{_≤_, _-_}
 use native.Mathlib.Omega.{arith}
 use lib.ListN.{length}
 use Rattle.laws.specs.Filling.{Upto, upto-none, upto-more}
 use borrow.Author.Needs.{needs}
-use Rattle.least.proofs.number.Statement.{statement}
-use Rattle.least.proofs.number.Tie as tie
+use Rattle.table.proofs.number.Statement.{statement}
+use Rattle.table.proofs.number.Tie as tie
 
 abbrev Inv-loop : tie.InvT-loop
 Inv-loop label₀ v₀ label v = (v ≤ length label₀) × Upto (λ u. u) v label₀ label
