@@ -1,5 +1,5 @@
 /* Plain C of the same method as the library's calls: a dense table, the scores raised by whole rows, the highest and then the first that
-   has it; groups merged in place. See plain.h. */
+   has it; groups merged in place, and the rounds stopped where no division is below what is noted. See plain.h. */
 #include "plain.h"
 
 #include <string.h>
@@ -151,14 +151,23 @@ static uint32_t add_row(uint32_t *restrict score, const uint32_t *restrict row, 
     uint32_t top = 0;
     for (size_t v = 0; v < n; v++) {
         score[v] += row[v];
-        top = score[v] > top ? score[v] : top;
+        top = (int32_t)score[v] > (int32_t)top ? score[v] : top; /* below 2^31: vectors of plain x86-64 compare signed numbers only */
     }
     return top;
 }
 
-static size_t first_of(const uint32_t *score, uint32_t top)
+/* the first that has the highest score; one of the eight at a time has it or none */
+static size_t first_of(const uint32_t *score, uint32_t top, size_t n)
 {
     size_t v = 0;
+    while (v + 8 < n) {
+        unsigned hit = 0;
+        for (size_t i = 0; i < 8; i++)
+            hit |= score[v + i] == top;
+        if (hit)
+            break;
+        v += 8;
+    }
     while (score[v] != top)
         v++;
     return v;
@@ -168,16 +177,13 @@ static size_t first_of(const uint32_t *score, uint32_t top)
 static size_t place(uint32_t *score, const uint32_t *table, size_t n, size_t x)
 {
     score[x] -= OPEN;
-    return first_of(score, add_row(score, table + x * MOST_NODES, n));
+    return first_of(score, add_row(score, table + x * MOST_NODES, n), n);
 }
 
-void plain_order(uint32_t n, const uint16_t *a, size_t a_len, const uint16_t *b, size_t b_len, const uint16_t *w, size_t w_len,
-                 uint16_t *order, size_t order_len, uint32_t *back, size_t back_len, uint64_t answer[8])
+static void order_rows(size_t n, const uint16_t *a, const uint16_t *b, const uint16_t *w, size_t rows, uint16_t *order, uint32_t *back)
 {
-    if (refused(n, a, a_len, b, b_len, w, w_len, order_len < n || back_len < n, answer))
-        return;
     uint32_t table[MOST_NODES * MOST_NODES], score[MOST_NODES];
-    fill(table, a, b, w, a_len);
+    fill(table, a, b, w, rows);
     for (size_t v = 0; v < n; v++)
         score[v] = OPEN;
     for (size_t p = 0, x = 0; p < n; p++) {
@@ -186,6 +192,14 @@ void plain_order(uint32_t n, const uint16_t *a, size_t a_len, const uint16_t *b,
         if (p + 1 < n)
             x = place(score, table, n, x);
     }
+}
+
+void plain_order(uint32_t n, const uint16_t *a, size_t a_len, const uint16_t *b, size_t b_len, const uint16_t *w, size_t w_len,
+                 uint16_t *order, size_t order_len, uint32_t *back, size_t back_len, uint64_t answer[8])
+{
+    if (refused(n, a, a_len, b, b_len, w, w_len, order_len < n || back_len < n, answer))
+        return;
+    order_rows(n, a, b, w, a_len, order, back);
 }
 
 void rescan_order(uint32_t n, const uint16_t *a, size_t a_len, const uint16_t *b, size_t b_len, const uint16_t *w, size_t w_len,
@@ -270,6 +284,100 @@ static void merge(uint32_t *table, size_t n, size_t keep, size_t gone)
     }
 }
 
+/* renames the ends of the rows and leaves out those that become one */
+static size_t squeeze(size_t rows, const uint16_t *name, uint16_t *x, uint16_t *y, uint16_t *z)
+{
+    size_t left = 0;
+    for (size_t r = 0; r < rows; r++) {
+        uint16_t u = name[x[r]], v = name[y[r]];
+        x[left] = u;
+        y[left] = v;
+        z[left] = z[r];
+        left += u != v;
+    }
+    return left;
+}
+
+/* one node for each that something hangs on, and for each that hangs on nothing; lowers *best to the fewest cables of a node */
+static size_t fasten(size_t n, size_t rows, uint32_t *best, const uint16_t *x, const uint16_t *y, const uint16_t *z, uint16_t *name)
+{
+    uint32_t cables[MOST_NODES] = {0};
+    uint16_t to[MOST_NODES];
+    uint8_t held[MOST_NODES] = {0};
+    for (size_t r = 0; r < rows; r++) {
+        cables[x[r]] += z[r];
+        cables[y[r]] += z[r];
+    }
+    for (size_t v = 0; v < n; v++) {
+        to[v] = v;
+        if (cables[v] < *best)
+            *best = cables[v];
+    }
+    for (size_t r = 0; r < rows; r++) {
+        uint16_t u = x[r], v = y[r];
+        if (to[u] != u || to[v] != v)
+            continue;
+        if (!held[u] && cables[u] <= 2u * z[r]) {
+            to[u] = v;
+            held[v] = 1;
+        } else if (!held[v] && cables[v] <= 2u * z[r]) {
+            to[v] = u;
+            held[u] = 1;
+        }
+    }
+    size_t kept = 0;
+    for (size_t v = 0; v < n; v++)
+        if (to[v] == v)
+            name[v] = kept++;
+    for (size_t v = 0; v < n; v++)
+        name[v] = name[to[v]];
+    return kept;
+}
+
+/* a number that no division is below, or 0: each run of the order becomes one node, and each that something hangs on, until all is one;
+   order and back are overwritten */
+static uint32_t floor_of(size_t n, const uint16_t *a, const uint16_t *b, const uint16_t *w, size_t rows, uint16_t *order, uint32_t *back)
+{
+    uint16_t x[MOST_ROWS], y[MOST_ROWS], z[MOST_ROWS], name[MOST_NODES];
+    memcpy(x, a, rows * sizeof x[0]);
+    memcpy(y, b, rows * sizeof y[0]);
+    memcpy(z, w, rows * sizeof z[0]);
+    uint32_t best = back[n - 1];
+    while (best != 0) {
+        size_t nodes = 0;
+        for (size_t p = 0; p < n; p++) {
+            nodes += back[p] < best;
+            name[order[p]] = nodes - 1;
+        }
+        rows = squeeze(rows, name, x, y, z);
+        if (nodes > 1 && rows <= 2 * nodes) {
+            nodes = fasten(nodes, rows, &best, x, y, z, name);
+            rows = squeeze(rows, name, x, y, z);
+        }
+        if (nodes == 1)
+            return best;
+        if (n - nodes < n / 8)
+            return 0;
+        n = nodes;
+        order_rows(n, x, y, z, rows, order, back);
+        if (back[n - 1] < best)
+            best = back[n - 1];
+    }
+    return 0;
+}
+
+static void note(uint64_t answer[8], const uint16_t *label, size_t n, size_t last, uint32_t value)
+{
+    uint64_t word[2] = {0, 0};
+    for (size_t v = 0; v < n; v++)
+        if (label[v] == last)
+            word[v / 64] |= 1ull << (v % 64);
+    answer[2] = value;
+    answer[3] = word[0];
+    answer[4] = word[1];
+    answer[5] = __builtin_popcountll(word[0]) + __builtin_popcountll(word[1]);
+}
+
 void plain_least(uint32_t n, const uint16_t *a, size_t a_len, const uint16_t *b, size_t b_len, const uint16_t *w, size_t w_len,
                  uint64_t answer[8])
 {
@@ -279,15 +387,22 @@ void plain_least(uint32_t n, const uint16_t *a, size_t a_len, const uint16_t *b,
         say(answer, 16, 0);
         return;
     }
-    uint32_t table[MOST_NODES * MOST_NODES], score[MOST_NODES], live[MOST_NODES];
-    uint16_t label[MOST_NODES];
-    fill(table, a, b, w, a_len);
-    for (size_t v = 0; v < n; v++) {
+    uint16_t label[MOST_NODES], order[MOST_NODES];
+    uint32_t back[MOST_NODES];
+    for (size_t v = 0; v < n; v++)
         label[v] = v;
-        live[v] = OPEN;
+    order_rows(n, a, b, w, a_len, order, back);
+    uint16_t first = order[n - 1];
+    uint32_t value = back[n - 1], low = floor_of(n, a, b, w, a_len, order, back);
+    if (value <= low) {
+        note(answer, label, n, first, value);
+        return;
     }
+    uint32_t table[MOST_NODES * MOST_NODES], score[MOST_NODES], live[MOST_NODES];
+    fill(table, a, b, w, a_len);
+    for (size_t v = 0; v < n; v++)
+        live[v] = OPEN;
     uint32_t best = UINT32_MAX;
-    uint64_t low = 0, high = 0;
     for (size_t groups = n; groups > 1; groups--) {
         memcpy(score, live, sizeof score);
         size_t before = 0, last = 0;
@@ -295,17 +410,12 @@ void plain_least(uint32_t n, const uint16_t *a, size_t a_len, const uint16_t *b,
             before = last;
             last = place(score, table, n, before);
         }
-        uint32_t value = score[last] - OPEN;
+        value = score[last] - OPEN;
         if (value < best) {
             best = value;
-            low = high = 0;
-            for (size_t v = 0; v < n; v++)
-                if (label[v] == last) {
-                    if (v < 64)
-                        low |= 1ull << v;
-                    else
-                        high |= 1ull << (v - 64);
-                }
+            note(answer, label, n, last, value);
+            if (best <= low)
+                return;
         }
         size_t keep = before < last ? before : last, gone = before < last ? last : before;
         merge(table, n, keep, gone);
@@ -314,10 +424,6 @@ void plain_least(uint32_t n, const uint16_t *a, size_t a_len, const uint16_t *b,
             if (label[v] == gone)
                 label[v] = keep;
     }
-    answer[2] = best;
-    answer[3] = low;
-    answer[4] = high;
-    answer[5] = __builtin_popcountll(low) + __builtin_popcountll(high);
 }
 
 void plain_summary(uint32_t n, const uint16_t *a, size_t a_len, const uint16_t *b, size_t b_len, const uint16_t *w, size_t w_len,

@@ -72,6 +72,52 @@ pub fn list(random: &mut Random, n: u32, rows: u64) -> List {
     list
 }
 
+/// An accepted list of 2 to `n` nodes in the shape of a site: some halls, each a ring, a path, a star, complete or at random, joined one to the next
+/// by a few cables; sometimes with the nodes' numbers mixed. The least split is a node, a hall, or halls.
+pub fn site(random: &mut Random, n: u32) -> List {
+    let nodes = random.between(2, u64::from(n)) as u16;
+    let halls = random.between(1, u64::from(nodes).min(6)) as u16;
+    let heaviest = random.pick(&[1, 1, 2, 9, 65_535]);
+    let mut ends: Vec<(u16, u16)> = vec![];
+    for hall in 0..halls {
+        let (first, end) = (hall * nodes / halls, (hall + 1) * nodes / halls);
+        if hall > 0 {
+            for _ in 0..random.between(1, 4) {
+                ends.push((random.below(u64::from(first)) as u16, random.between(u64::from(first), u64::from(end) - 1) as u16));
+            }
+        }
+        match random.below(5) {
+            0 | 1 => {
+                ends.extend((first + 1..end).map(|v| (v - 1, v)));
+                if end - first > 2 && random.once_in(2) {
+                    ends.push((end - 1, first));
+                }
+            }
+            2 => ends.extend((first + 1..end).map(|v| (v, first))),
+            3 if end - first <= 24 => ends.extend((first..end).flat_map(|u| (first..u).map(move |v| (u, v)))),
+            _ if end - first > 1 => {
+                for _ in 0..random.below(10 * u64::from(end - first)) {
+                    let u = random.below(u64::from(end - first));
+                    let v = (u + random.between(1, u64::from(end - first) - 1)) % u64::from(end - first);
+                    ends.push((first + u as u16, first + v as u16));
+                }
+            }
+            _ => {}
+        }
+    }
+    let mut number: Vec<u16> = (0..nodes).collect();
+    if random.once_in(2) {
+        for v in (1..nodes as usize).rev() {
+            number.swap(v, random.below(v as u64 + 1) as usize);
+        }
+    }
+    let rows = ends
+        .into_iter()
+        .map(|(u, v)| Row { a: number[u as usize], b: number[v as usize], w: random.between(1, heaviest) as u16 })
+        .collect();
+    List { n: u32::from(nodes), rows }
+}
+
 /// A list as a call may be given it: mostly accepted, else with something wrong.
 pub struct Loose {
     pub n: u32,

@@ -228,7 +228,7 @@ fn splits(random: &mut Random, scale: Scale) -> String {
     let lists = scale.of(20_000);
     let (mut divisions, mut questions) = (0u64, 0u64);
     for _ in 0..lists {
-        let list = random::list(random, 10, 26);
+        let list = if random.once_in(2) { random::site(random, 10) } else { random::list(random, 10, 26) };
         let case = Case::new(Loose::of(&list));
         let answer = case.least();
         if answer[0] != 0 {
@@ -260,6 +260,21 @@ fn large_splits(random: &mut Random, scale: Scale) -> String {
         case.unchanged();
     }
     format!("{lists} lists of up to 128 nodes and 2,048 rows")
+}
+
+/// The least split of sites: halls joined by a few cables, so that it is found in the first round, in a later one, and in the last.
+fn sites(random: &mut Random, scale: Scale) -> String {
+    let lists = scale.of(1_000);
+    let mut alone = 0;
+    for _ in 0..lists {
+        let nodes = random.pick(&[12, 24, 64, 128]);
+        let case = Case::new(Loose::of(&random::site(random, nodes)));
+        let answer = case.least();
+        alone += u64::from(answer[5] == 1);
+        case.fewer(random.pick(&[1, answer[2], answer[2] + 1]) as u32);
+        case.unchanged();
+    }
+    format!("{lists} sites of up to 128 nodes, the side one node in {alone} of them")
 }
 
 /// The same from four threads at once.
@@ -296,7 +311,7 @@ fn main() {
             std::process::exit(2);
         }
     };
-    let parts: [(&str, Part); 10] = [
+    let parts: [(&str, Part); 11] = [
         ("files", files),
         ("damaged files", damaged_files),
         ("limit files", limit_files),
@@ -306,6 +321,7 @@ fn main() {
         ("limit lists", limit_lists),
         ("splits", splits),
         ("large splits", large_splits),
+        ("sites", sites),
         ("threads", threads),
     ];
     for (seed, (name, part)) in parts.into_iter().enumerate() {
