@@ -20,8 +20,8 @@ use Rattle.laws.specs.Lists.{distinct-eq, distinct-later, getD-laid-new}
 use Rattle.laws.specs.Rows.{back-nil, back-snoc}
 use Rattle.laws.specs.Order.{size-all, length-prefix, prefix-placed}
 use Rattle.thinning.specs.Place.{Lists, order-lists, place-lt, at-place}
-use Rattle.table.specs.Table.{cell, Holds, mark, Rows, Ready, Ran}
-use Rattle.forest.specs.Scan.{cellAt, above, Turnable, Spread, Tabled, Scannable}
+use Rattle.table.specs.Table.{cell, cellAt, Holds, mark, Rows, Ready, Ran}
+use Rattle.forest.specs.Scan.{above, Turnable, Spread, Tabled, Scannable}
 use Rattle.forest.proofs.Reach.{back-most, back-self}
 
 cell-back : (L : LinkList) → Accepted L → (p q : ℕ) → cell L p q ≡ back L (eqb p) q

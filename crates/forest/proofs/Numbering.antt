@@ -19,7 +19,8 @@ use Rattle.laws.specs.Bools.{cases-eq}
 use Rattle.laws.specs.Sums.{sum-suc}
 use Rattle.thinning.specs.Place.{by-test, eqb-position}
 use Rattle.thinning.specs.Ends.{Proper, accepted-proper, earlier-before, earlier-inside, later-inside, reach-later}
-use Rattle.forest.specs.Scan.{cellAt, cellOf, reachedBy, Reached, Scannable, Numbered}
+use Rattle.table.specs.Table.{cellAt}
+use Rattle.forest.specs.Scan.{cellOf, reachedBy, Reached, Scannable, Numbered}
 use Rattle.laws.specs.Filling.{filled-more}
 use Rattle.forest.proofs.Reach.{not-both, reach-sum, back-most}
 

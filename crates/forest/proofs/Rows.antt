@@ -9,7 +9,8 @@ use lib.ListN.{length, getD, take, drop, List·getD-append, length-drop}
 use lib.Seq.{length-take-le, getD-take, getD-drop, getD-append-add}
 use borrow.Rule.Slice.PartMut.{putMid, same-len-mid, take-put, drop-put}
 use Rattle.laws.specs.Bools.{cases-lt}
-use Rattle.forest.specs.Scan.{cellAt, Exchanged}
+use Rattle.table.specs.Table.{cellAt}
+use Rattle.forest.specs.Scan.{Exchanged}
 
 module _ (m : List ℕ) (x : ℕ) (size : length m ≡ 16384) (inside : x < 128) where
   abbrev k : ℕ

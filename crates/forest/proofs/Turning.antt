@@ -9,7 +9,8 @@ use lib.ListN.{length, getD, set, length-set}
 use lib.Seq.{getD-set-same, getD-set-other}
 use borrow.Author.Count.{below-more}
 use Rattle.laws.specs.Sums.{sum-none, sum-suc}
-use Rattle.forest.specs.Scan.{cellAt, above, Exchanged, Once, Spread}
+use Rattle.table.specs.Table.{cellAt}
+use Rattle.forest.specs.Scan.{above, Exchanged, Once, Spread}
 
 pub record Turning (o m₀ : List ℕ) (p : ℕ) (m acc place : List ℕ) : Type 0 where
   pub size : length m ≡ length m₀

@@ -10,11 +10,7 @@ use Rattle.meaning.specs.Links.{LinkList, given, listOf, Accepted}
 use Rattle.meaning.specs.Order.{reach, back}
 use Rattle.meaning.specs.Forest.{position, firstsOf}
 use Rattle.thinning.specs.Place.{Lists}
-use Rattle.table.specs.Table.{Holds}
-
--- the cell of x and y
-abbrev pub cellAt : List ℕ → ℕ → ℕ → ℕ
-cellAt m x y = getD m (x * 128 + y) 0
+use Rattle.table.specs.Table.{cellAt, Holds}
 
 -- row x of the table and the sums acc are exchanged, and the row is added to the sums
 pub record Exchanged (x : ℕ) (m m′ acc acc′ : List ℕ) : Type 0 where

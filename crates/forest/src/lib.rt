@@ -12,8 +12,9 @@ ghost use lib.ListN.{length, getD};
 ghost use Rattle.meaning.specs.Sums.{laid};
 ghost use Rattle.meaning.specs.Links.{LinkList, listOf, given, Accepted};
 ghost use Rattle.meaning.specs.Order.{orderOf};
+ghost use Rattle.table.specs.Table.{cellAt};
 ghost use Rattle.forest.specs.Forest.{FirstNumbers, firsts0};
-ghost use Rattle.forest.specs.Scan.{Exchanged, Turnable, Spread, Numbered, Tabled, Scannable, Roomy, FirstsAlong, cellAt, cellOf};
+ghost use Rattle.forest.specs.Scan.{Exchanged, Turnable, Spread, Numbered, Tabled, Scannable, Roomy, FirstsAlong, cellOf};
 
 // ---- turning the table along the order
 

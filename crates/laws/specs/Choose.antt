@@ -1,7 +1,7 @@
 -- Laws of `choose`: among the free nodes it takes one with the highest score, and the smallest of those; nothing else does.
 --
 -- In order: a test below a bound passes somewhere or nowhere (`some-below`); `Chosen`, the three things that make the choice, with
--- `choose-chosen`, `chosen-unique`, `choose-is`; counts of the free nodes (`size-split`, `size-less`, `size-some`).
+-- `choose-chosen`, `chosen-unique`, `choose-is`; counts of the numbers that pass a test (`size-split`, `size-less`, `size-some`, .. `size-rises`).
 --
 -- `choose` keeps the best of the nodes passed, and replaces it only by a better one: an induction on the bound. Assumes nothing.
 use Prim.Native.Nat.{ℕ, zero, suc, _+_, _≤_, _<_}
@@ -14,8 +14,8 @@ use borrow.Author.Tests.{ltb-true, ltb-false}
 use Rattle.meaning.specs.Sums.{on}
 use Rattle.meaning.specs.Order.{beats, choose}
 use Rattle.meaning.specs.Split.{sizeOf}
-use Rattle.laws.specs.Bools.{bool-cases, cases-eq, cases-lt, true-false, cond-true, cond-false, on-true, only-at, and-left, and-right}
-use Rattle.laws.specs.Sums.{sum-on-split, sum-on-one, sum-ext, sum-some, sum-term-le}
+use Rattle.laws.specs.Bools.{bool-cases, cases-eq, cases-lt, true-false, cond-true, cond-false, on-true, on-most, only-at, and-left, and-right}
+use Rattle.laws.specs.Sums.{sum-none, sum-suc, sum-most, sum-longer, sum-on-split, sum-on-one, sum-ext, sum-some, sum-term-le}
 
 -- a test passes somewhere below n, or nowhere
 pub some-below : (n : ℕ) (t : ℕ → Bool) → ((v : ℕ) × (v < n) × (t v ≡ true)) ⊎ ((v : ℕ) → v < n → t v ≡ false)
@@ -192,3 +192,20 @@ size-some n s h =
 
 pub size-has : (n : ℕ) (s : ℕ → Bool) (v : ℕ) → v < n → s v ≡ true → 1 ≤ sizeOf n s
 size-has n s v l e = omega (arith, sum-term-le n (λ u. on (s u) 1) v l, on-true (s v) 1 e)
+
+-- number by number
+pub size-none : (s : ℕ → Bool) → sizeOf 0 s ≡ 0
+size-none s = sum-none (λ v. on (s v) 1)
+
+pub size-suc : (n : ℕ) (s : ℕ → Bool) → sizeOf (suc n) s ≡ sizeOf n s + on (s n) 1
+size-suc n s = sum-suc n (λ v. on (s v) 1)
+
+pub size-most : (n : ℕ) (s : ℕ → Bool) → sizeOf n s ≤ n
+size-most n s = omega (arith, sum-most n (λ v. on (s v) 1) 1 (λ v h. on-most (s v) 1))
+
+-- the longer the more, and one more at each that passes
+pub size-longer : (n m : ℕ) (s : ℕ → Bool) → n ≤ m → sizeOf n s ≤ sizeOf m s
+size-longer n m s le = sum-longer n m (λ v. on (s v) 1) le
+
+pub size-rises : (x n : ℕ) (s : ℕ → Bool) → s x ≡ true → x < n → sizeOf x s < sizeOf n s
+size-rises x n s e h = omega (arith, size-suc x s, on-true (s x) 1 e, size-longer (suc x) n s h)

@@ -26,10 +26,6 @@ pub has-nil : (x : ℕ) → has [] x ≡ false
 unfolding has
 has-nil x = refl
 
-pub has-cons : (y : ℕ) (ys : List ℕ) (x : ℕ) → has (y ∷ ys) x ≡ (eqb y x || has ys x)
-unfolding has
-has-cons y ys x = refl
-
 pub has-append : (xs ys : List ℕ) (x : ℕ) → has (xs ++ ys) x ≡ (has xs x || has ys x)
 unfolding has
 has-append [] ys x = refl

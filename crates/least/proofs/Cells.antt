@@ -8,7 +8,8 @@ use native.Mathlib.Omega.{arith}
 use lib.ListN.{length, set, length-set}
 use lib.Seq.{getD-set-same, getD-set-other}
 use Rattle.laws.specs.Bools.{cases-eq, cases-lt}
-use Rattle.least.specs.Rounds.{cellAt, Light, CellFolded, RowFolded, NodeFolded, ColumnFolded, Folded}
+use Rattle.table.specs.Table.{cellAt}
+use Rattle.least.specs.Rounds.{Light, CellFolded, RowFolded, NodeFolded, ColumnFolded, Folded}
 
 -- ---- one store
 

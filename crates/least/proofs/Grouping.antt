@@ -16,7 +16,7 @@ use Rattle.meaning.specs.Links.{LinkList, Accepted}
 use Rattle.meaning.specs.Order.{all, back, prefix, backAt, backsOf}
 use Rattle.meaning.specs.Split.{Split, renamed, live, group, merged, noted, better, groupOrder}
 use Rattle.laws.specs.Bools.{cases-eq, on-most}
-use Rattle.laws.specs.Sums.{sum-most}
+use Rattle.laws.specs.Choose.{size-most}
 use Rattle.laws.specs.Lists.{getD-laid-new, getD-listed, length-listed}
 use Rattle.laws.specs.Rows.{back-links}
 use Rattle.laws.specs.Order.{length-prefix}
@@ -62,7 +62,7 @@ module _ {L : LinkList} {g : ℕ → ℕ} {n count : ℕ} {m label : List ℕ} (
   few-nodes = omega (arith, s .nodes, s .accepted .few-nodes)
 
   pub count-few : count ≤ 128
-  count-few = omega (arith, few-nodes, s .groups .count, sum-most n (λ v. on (live g v) 1) 1 (λ v h. on-most (live g v) 1))
+  count-few = omega (arith, few-nodes, s .groups .count, size-most n (live g))
 
   -- the first n labels
   pub labels-part : length (take n label) ≡ n

@@ -13,8 +13,8 @@ use Rattle.meaning.specs.Split.{renamed}
 use Rattle.laws.specs.Bools.{cases-eq, on-true, on-false}
 use Rattle.laws.specs.Rows.{back-sym}
 use Rattle.laws.specs.Rounds.{moved, back-keep, back-other, back-gone, gone-back}
-use Rattle.table.specs.Table.{cell, Holds}
-use Rattle.least.specs.Rounds.{cellAt, Folded}
+use Rattle.table.specs.Table.{cell, cellAt, Holds}
+use Rattle.least.specs.Rounds.{Folded}
 
 -- a cell of a table, on its diagonal and off it
 cell-same : (L : LinkList) (p q : ℕ) → p ≡ q → cell L p q ≡ 0

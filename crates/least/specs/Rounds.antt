@@ -1,6 +1,6 @@
 -- What the functions between the table and the two calls promise: folding two groups of the table into one, what a round finds, and the
 -- division noted so far. Groups are those of `meaning` and `method`: g gives each node the number of its group.
-use Prim.Native.Nat.{ℕ, suc, _+_, _*_, _≤_, _<_}
+use Prim.Native.Nat.{ℕ, suc, _+_, _≤_, _<_}
 use mathlib.Core.Path.{_≡_}
 use mathlib.Core.Bool.{false}
 use mathlib.Core.List.{List}
@@ -12,7 +12,7 @@ use Rattle.meaning.specs.Order.{all}
 use Rattle.meaning.specs.Split.{Split, cut, renamed, group, merged, noted, better, word, sizeOf}
 use Rattle.laws.specs.Rounds.{moved}
 use Rattle.method.specs.Least.{Groups, lastOf, beforeOf}
-use Rattle.table.specs.Table.{Holds, mark}
+use Rattle.table.specs.Table.{cellAt, Holds, mark}
 use Rattle.least.specs.declared.Last.{Last}
 use Rattle.least.specs.declared.Noted.{Noted}
 
@@ -29,10 +29,6 @@ pub record Relabelled (n keep gone : ℕ) (label label′ : List ℕ) : Type 0 w
   pub moves : (v : ℕ) → v < n → getD label′ v 0 ≡ moved keep gone (getD label v 0)
 
 -- ---- the table
-
--- what stands between p and q
-abbrev pub cellAt : List ℕ → ℕ → ℕ → ℕ
-cellAt m p q = getD m (p * 128 + q) 0
 
 -- no two cells add up to 2 ^ 32
 abbrev pub Light : List ℕ → Type 0

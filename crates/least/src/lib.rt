@@ -17,8 +17,8 @@ ghost use Rattle.laws.specs.Accept.{Even};
 ghost use Rattle.laws.specs.Rounds.{moved};
 ghost use Rattle.method.specs.Question.{NoneBelow};
 ghost use Rattle.sides.specs.Bits.{labelled};
-ghost use Rattle.table.specs.Table.{mark};
-ghost use Rattle.least.specs.Rounds.{Opened, Relabelled, cellAt, Light, CellFolded, RowFolded, NodeFolded, ColumnFolded, Folded, Grouped, Ended, Notes, After, above};
+ghost use Rattle.table.specs.Table.{mark, cellAt};
+ghost use Rattle.least.specs.Rounds.{Opened, Relabelled, Light, CellFolded, RowFolded, NodeFolded, ColumnFolded, Folded, Grouped, Ended, Notes, After, above};
 
 // ---- the groups
 

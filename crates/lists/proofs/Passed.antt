@@ -3,10 +3,9 @@
 use Prim.Native.Nat.{ℕ, _<_, _≤_}
 use mathlib.Core.Path.{_≡_}
 use mathlib.Core.Bool.{Bool, false}
-use borrow.Author.Tests.{ltb-false}
-use lib.ListN.{length, getD}
+use lib.ListN.{length}
 use Rattle.meaning.specs.Numbers.{fine}
-use Rattle.meaning.specs.Links.{Given, listOf, links, listCheck, Accepted}
+use Rattle.meaning.specs.Links.{Given, listOf, listCheck}
 use Rattle.laws.specs.Accept.{GoodRow, row-good, rows-fine, nodes-limit, size-even, size-limit, check-fine}
 
 -- a list that passed, in a call whose lent outputs are too short where `short` says so
@@ -18,7 +17,6 @@ pub record Passed (g : Given) (short : Bool) : Type 0 where
   pub few-rows : length (g .la) ≤ 2048
   pub roomy : short ≡ false
   pub rows : (r : ℕ) → r < length (g .la) → GoodRow (listOf g) r
-  pub links-fit : links (listOf g) ≤ 4294967295
 
 pub passed : (g : Given) (short : Bool) → listCheck g short ≡ fine → Passed g short
 passed g short e =
@@ -33,19 +31,4 @@ passed g short e =
       few-rows = size-limit g (c .size-good);
       roomy = c .room-good;
       rows = λ r below. row-good (listOf g) r (rows-fine (listOf g) (length (g .la)) (c .rows-good) r below);
-      links-fit = ltb-false _ _ (c .sum-good);
-    }
-
--- a list of 16-bit weights that passed is an accepted one
-pub accepted : (g : Given) (short : Bool) → Passed g short → ((r : ℕ) → getD (g .lw) r 0 ≤ 65535) → Accepted (listOf g)
-accepted g short p light =
-    record {
-      some-node = p .some-node;
-      few-nodes = p .few-nodes;
-      few-rows = p .few-rows;
-      a-inside = λ r below. p .rows r below .a-in;
-      b-inside = λ r below. p .rows r below .b-in;
-      apart = λ r below. p .rows r below .ends-apart;
-      weighty = λ r below. p .rows r below .some-weight;
-      light = λ r below. light r;
     }

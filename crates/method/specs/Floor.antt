@@ -1,4 +1,5 @@
--- A number that no division is below, found by contracting: document 000's claim, used as the method of Nagamochi and Ibaraki uses it.
+-- A number that no division is below, found by contracting: document 000's claim, used as the method of Nagamochi and Ibaraki uses it. In order: the runs of an
+-- order (`runs`); a list whose nodes are sets of another's (`Gathers`); the list with a node for each run (`floor-step`).
 --
 -- Why it is true: a node has, in a max-back order, no more cables back than cross any division that parts it from the node before it. So a division
 -- below `best` parts no node with `best` or more cables back from the node before it, and holds each run of the order whole or not at all: it is a
@@ -16,27 +17,33 @@ use borrow.Author.Tests.{eqb-true, ltb-false}
 use Rattle.meaning.specs.Sums.{on, differ, has}
 use Rattle.meaning.specs.Links.{LinkList, Accepted}
 use Rattle.meaning.specs.Order.{all, backAt, choose, orderOf}
-use Rattle.meaning.specs.Split.{cut}
-use Rattle.laws.specs.Bools.{bool-cases, cases-lt, true-false, on-true, differ-false, eqb-same}
-use Rattle.laws.specs.Sums.{sum-suc, sum-longer}
+use Rattle.meaning.specs.Split.{cut, sizeOf}
+use Rattle.laws.specs.Bools.{bool-cases, cases-lt, on-true, differ-false, eqb-same}
 use Rattle.laws.specs.Lists.{has-at}
 use Rattle.laws.specs.Rows.{cut-ends}
-use Rattle.laws.specs.Choose.{choose-chosen}
+use Rattle.laws.specs.Choose.{choose-chosen, size-suc, size-longer}
 use Rattle.method.specs.Division.{Division}
 use Rattle.method.specs.Claim.{MaxBack, claim-cut}
 use Rattle.method.specs.Order.{Ordered, order-ordered}
 use Rattle.method.specs.Question.{NoneBelow}
-use Rattle.method.specs.Runs.{runs}
 
 -- ---- runs
 
--- one node more begins one run at most, and where it begins none its back count is not below
+-- the node at place i begins a run: it has fewer than `best` cables back
+abbrev pub begins : List ℕ → ℕ → ℕ → Bool
+begins back best i = ltb (getD back i 0) best
+
+-- how many runs the first p nodes begin
+abbrev pub runs : List ℕ → ℕ → ℕ → ℕ
+runs back best p = sizeOf p (begins back best)
+
+-- where a node begins none its back count is not below
 runs-on : (back : List ℕ) (best p : ℕ) → runs back best (suc p) ≡ runs back best p → best ≤ getD back p 0
 runs-on back best p e =
     ⊎-elim
-    (λ t. let one = on-true (ltb (getD back p 0) best) 1 t in absurd (omega (arith, sum-suc p (λ i. on (ltb (getD back i 0) best) 1))))
+    (λ t. absurd (omega (arith, size-suc p (begins back best), on-true (begins back best p) 1 t)))
     (λ f. ltb-false (getD back p 0) best f)
-    (bool-cases (ltb (getD back p 0) best))
+    (bool-cases (begins back best p))
 
 module _ (L : LinkList) (o back : List ℕ) (mb : MaxBack L o) (backs : (p : ℕ) → p < length o → getD back p 0 ≡ backAt L o p)
     (best : ℕ) (S : ℕ → Bool) (low : cut L S < best) where
@@ -54,8 +61,8 @@ module _ (L : LinkList) (o back : List ℕ) (mb : MaxBack L o) (backs : (p : ℕ
   one-run p (suc q) le l e =
       ⊎-elim
       (λ lt.
-      let up = sum-longer (suc p) (suc q) (λ i. on (ltb (getD back i 0) best) 1) (omega arith) in
-      let on = sum-longer (suc q) (suc (suc q)) (λ i. on (ltb (getD back i 0) best) 1) (omega arith) in
+      let up = size-longer (suc p) (suc q) (begins back best) (omega arith) in
+      let on = size-longer (suc q) (suc (suc q)) (begins back best) (omega arith) in
       one-run p q (omega arith) (omega arith) (omega arith)
       ∙ neighbours q l (runs-on back best (suc q) (omega arith)))
       (λ ge. let same : p ≡ suc q = omega arith in ap (λ i. S (getD o i 0)) same)
@@ -127,14 +134,3 @@ module _ (L : LinkList) (acc : Accepted L) (s : ℕ) (s-below : s < L .nodes) (b
       (λ lt. gathered-none L M acc name gathers x none S (same-name S (omega arith)) d)
       (λ ge. ge)
       (cases-lt (cut L S) x)
-
-  -- Where all nodes are in one run, no division is below `best`.
-  pub floor-one : ((v : ℕ) → v < L .nodes → name v ≡ 0) → NoneBelow L best
-  floor-one one S d = ⊎-elim (λ lt. absurd (below lt)) (λ ge. ge) (cases-lt (cut L S) best)
-    where
-      below : cut L S < best → ⊥
-      below lt =
-          let i = d .inside in
-          let o = d .outside in
-          let e = same-name S lt (i .0) (o .0) (i .1) (o .1) (one (i .0) (i .1) ∙ sym (one (o .0) (o .1))) in
-          true-false (S (o .0)) (sym e ∙ i .2) (o .2)

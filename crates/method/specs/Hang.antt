@@ -23,38 +23,38 @@ use Rattle.method.specs.Division.{Division}
 use Rattle.method.specs.Question.{NoneBelow}
 use Rattle.method.specs.Floor.{Gathers, gathered-none}
 
--- ---- one node moved to another's side
+-- ---- one node brought to another's side
 
 -- S with u on v's side
-abbrev moved : (ℕ → Bool) → ℕ → ℕ → ℕ → Bool
-moved S u v z = cond (eqb u z) (S v) (S z)
+abbrev brought : (ℕ → Bool) → ℕ → ℕ → ℕ → Bool
+brought S u v z = cond (eqb u z) (S v) (S z)
 
 -- one row with ends a and b, of c cables: what u and v are to its ends, and the sides
-row-moved : (ua ub va vb p q s : Bool) (c : ℕ)
+row-brought : (ua ub va vb p q s : Bool) (c : ℕ)
     → (ua ≡ true → (va ≡ false) × (p ≡ not s)) → (ub ≡ true → (vb ≡ false) × (q ≡ not s)) → (va ≡ true → p ≡ s) → (vb ≡ true → q ≡ s)
     → on (differ (cond ua s p) (cond ub s q)) c + ((on (ua && vb) c + on (ub && va) c) + (on (ua && vb) c + on (ub && va) c))
     ≤ on (differ p q) c + on (differ ua ub) c
-row-moved true true va vb p q s c hu hw ha hb = rw ((hu refl) .0, (hw refl) .0, differ-self s) (omega arith)
-row-moved true false va true p q s c hu hw ha hb = rw ((hu refl) .1, hb refl, differ-self s) (other s)
+row-brought true true va vb p q s c hu hw ha hb = rw ((hu refl) .0, (hw refl) .0, differ-self s) (omega arith)
+row-brought true false va true p q s c hu hw ha hb = rw ((hu refl) .1, hb refl, differ-self s) (other s)
   where
     other : (t : Bool) → 0 + ((c + 0) + (c + 0)) ≤ on (differ (not t) t) c + c
     other true = omega arith
     other false = omega arith
-row-moved true false va false p q s c hu hw ha hb = omega (arith, on-most (differ s q) c)
-row-moved false true true vb p q s c hu hw ha hb = rw ((hw refl) .1, ha refl, differ-self s) (other s)
+row-brought true false va false p q s c hu hw ha hb = omega (arith, on-most (differ s q) c)
+row-brought false true true vb p q s c hu hw ha hb = rw ((hw refl) .1, ha refl, differ-self s) (other s)
   where
     other : (t : Bool) → 0 + ((0 + c) + (0 + c)) ≤ on (differ t (not t)) c + c
     other true = omega arith
     other false = omega arith
-row-moved false true false vb p q s c hu hw ha hb = omega (arith, on-most (differ p s) c)
-row-moved false false va vb p q s c hu hw ha hb = omega arith
+row-brought false true false vb p q s c hu hw ha hb = omega (arith, on-most (differ p s) c)
+row-brought false false va vb p q s c hu hw ha hb = omega arith
 
 module _ (L : LinkList) (S : ℕ → Bool) (u v : ℕ) (two : u ≡ v → ⊥) where
   -- the cables between the two, twice, and what is saved
-  moved-cut : differ (S u) (S v) ≡ true → cut L (moved S u v) + (back L (eqb v) u + back L (eqb v) u) ≤ cut L S + cut L (eqb u)
+  brought-cut : differ (S u) (S v) ≡ true → cut L (brought S u v) + (back L (eqb v) u + back L (eqb v) u) ≤ cut L S + cut L (eqb u)
   unfolding cut back
-  moved-cut d =
-      let f : ℕ → ℕ = λ r. on (differ (moved S u v (L .a r)) (moved S u v (L .b r))) (L .w r) in
+  brought-cut d =
+      let f : ℕ → ℕ = λ r. on (differ (brought S u v (L .a r)) (brought S u v (L .b r))) (L .w r) in
       let g : ℕ → ℕ = λ r. reach (eqb v) u (L .a r) (L .b r) (L .w r) in
       let h : ℕ → ℕ = λ r. on (differ (S (L .a r)) (S (L .b r))) (L .w r) in
       let k : ℕ → ℕ = λ r. on (differ (eqb u (L .a r)) (eqb u (L .b r))) (L .w r) in
@@ -80,29 +80,29 @@ module _ (L : LinkList) (S : ℕ → Bool) (u v : ℕ) (two : u ≡ v → ⊥) w
       at-v z e = ap S (sym (eqb-true v z e))
 
       row : (a b c : ℕ)
-          → on (differ (moved S u v a) (moved S u v b)) c + (reach (eqb v) u a b c + reach (eqb v) u a b c)
+          → on (differ (brought S u v a) (brought S u v b)) c + (reach (eqb v) u a b c + reach (eqb v) u a b c)
           ≤ on (differ (S a) (S b)) c + on (differ (eqb u a) (eqb u b)) c
       row a b c =
           rw (eqb-sym a u, eqb-sym b u)
-          (row-moved (eqb u a) (eqb u b) (eqb v a) (eqb v b) (S a) (S b) (S v) c (at-u a) (at-u b) (at-v a) (at-v b))
+          (row-brought (eqb u a) (eqb u b) (eqb v a) (eqb v b) (S a) (S b) (S v) c (at-u a) (at-u b) (at-v a) (at-v b))
 
   -- u on v's side already: nothing moves
-  moved-same : S u ≡ S v → (z : ℕ) → moved S u v z ≡ S z
-  moved-same e z =
+  brought-same : S u ≡ S v → (z : ℕ) → brought S u v z ≡ S z
+  brought-same e z =
       ⊎-elim
       (λ t. cond-true (eqb u z) (S v) (S z) t ∙ sym e ∙ ap S (eqb-true u z t))
       (λ f. cond-false (eqb u z) (S v) (S z) f)
       (bool-cases (eqb u z))
 
   -- Where half of u's cables go to v, moving u over raises no value.
-  pub moved-less : cut L (eqb u) ≤ back L (eqb v) u + back L (eqb v) u → cut L (moved S u v) ≤ cut L S
-  moved-less heavy =
+  pub brought-less : cut L (eqb u) ≤ back L (eqb v) u + back L (eqb v) u → cut L (brought S u v) ≤ cut L S
+  brought-less heavy =
       ⊎-elim
-      (λ d. omega (arith, moved-cut d))
-      (λ e. omega (arith, cut-ext L (moved S u v) S (moved-same (differ-false (S u) (S v) e))))
+      (λ d. omega (arith, brought-cut d))
+      (λ e. omega (arith, cut-ext L (brought S u v) S (brought-same (differ-false (S u) (S v) e))))
       (bool-cases (differ (S u) (S v)))
 
--- ---- a division with a node moved
+-- ---- a division with a node brought
 
 -- the sides exchanged, or not
 differ-both : (p q k : Bool) → differ (differ p k) (differ q k) ≡ differ p q
@@ -159,37 +159,37 @@ module _ (L : LinkList) (acc : Accepted L) (x : ℕ) (S : ℕ → Bool) (d : Div
           (bool-cases (differ (S u) (S z)))
 
   -- So S with u on v's side is a division too.
-  pub moved-division : Division (L .nodes) (moved S u v)
-  moved-division =
+  pub brought-division : Division (L .nodes) (brought S u v)
+  brought-division =
       ⊎-elim
       (λ t. parted t)
       (λ e.
-      let same = moved-same L S u v two (differ-false (S u) (S v) e) in
+      let same = brought-same L S u v two (differ-false (S u) (S v) e) in
       record {
         inside = (d .inside .0, d .inside .1, same (d .inside .0) ∙ d .inside .2);
         outside = (d .outside .0, d .outside .1, same (d .outside .0) ∙ d .outside .2);
       })
       (bool-cases (differ (S u) (S v)))
     where
-      stays : (z : ℕ) → eqb u z ≡ false → moved S u v z ≡ S z
+      stays : (z : ℕ) → eqb u z ≡ false → brought S u v z ≡ S z
       stays z f = cond-false (eqb u z) (S v) (S z) f
 
       -- v, and a node beside u, which are on two sides
-      parted : differ (S u) (S v) ≡ true → Division (L .nodes) (moved S u v)
+      parted : differ (S u) (S v) ≡ true → Division (L .nodes) (brought S u v)
       parted t = ⊎-elim (λ some. by (some .0) (some .1) (some .2) (S u) (S v) refl refl t) (λ none. absurd (beside-some none)) (some-below (L .nodes) beside)
         where
-          two-sides : (z : ℕ) → z < L .nodes → (p q : Bool) → moved S u v z ≡ p → moved S u v v ≡ q → differ p q ≡ true → Division (L .nodes) (moved S u v)
+          two-sides : (z : ℕ) → z < L .nodes → (p q : Bool) → brought S u v z ≡ p → brought S u v v ≡ q → differ p q ≡ true → Division (L .nodes) (brought S u v)
           two-sides z l true true a b e = true-false false e refl
           two-sides z l true false a b e = record { inside = (z, l, a); outside = (v, v-below, b) }
           two-sides z l false true a b e = record { inside = (v, v-below, b); outside = (z, l, a) }
           two-sides z l false false a b e = true-false false e refl
 
-          by : (z : ℕ) → z < L .nodes → beside z ≡ true → (p q : Bool) → S u ≡ p → S v ≡ q → differ (S u) (S v) ≡ true → Division (L .nodes) (moved S u v)
+          by : (z : ℕ) → z < L .nodes → beside z ≡ true → (p q : Bool) → S u ≡ p → S v ≡ q → differ (S u) (S v) ≡ true → Division (L .nodes) (brought S u v)
           by z l b p q eu ev t =
               let away : eqb u z ≡ false = not-true (eqb u z) (and-left (not (eqb u z)) (not (differ (S u) (S z))) b) in
               let near : S u ≡ S z = differ-false (S u) (S z) (not-true (differ (S u) (S z)) (and-right (not (eqb u z)) (not (differ (S u) (S z))) b)) in
-              let at-z : moved S u v z ≡ p = stays z away ∙ sym near ∙ eu in
-              let at-v : moved S u v v ≡ q = stays v (ne-eqb u v two) ∙ ev in
+              let at-z : brought S u v z ≡ p = stays z away ∙ sym near ∙ eu in
+              let at-v : brought S u v v ≡ q = stays v (ne-eqb u v two) ∙ ev in
               let pq : differ p q ≡ true = ap (λ y. differ y q) (sym eu) ∙ ap (differ (S u)) (sym ev) ∙ t in
               two-sides z l p q at-z at-v pq
 
@@ -242,8 +242,8 @@ module _ (L : LinkList) (acc : Accepted L) (x : ℕ) (to : ℕ → ℕ) (hangs :
         (λ ne. ap S (upto-other k v ne))
         (cases-eq v k)
 
-    at-moved : (k : ℕ) → k < L .nodes → (v : ℕ) → at (suc k) v ≡ moved (at k) k (to k) v
-    at-moved k l v =
+    at-brought : (k : ℕ) → k < L .nodes → (v : ℕ) → at (suc k) v ≡ brought (at k) k (to k) v
+    at-brought k l v =
         ⊎-elim
         (λ q.
         ap (at (suc k)) q ∙ ap S (upto-there (suc k) k (omega arith) ∙ sym (upto-target k l))
@@ -251,21 +251,21 @@ module _ (L : LinkList) (acc : Accepted L) (x : ℕ) (to : ℕ → ℕ) (hangs :
         (λ ne. ap S (upto-other k v ne) ∙ sym (cond-false (eqb k v) (at k (to k)) (at k v) (ne-eqb k v (λ q. ne (sym q)))))
         (cases-eq v k)
 
-    all-moved : (k : ℕ) → k ≤ L .nodes → Division (L .nodes) (at k) × (cut L (at k) ≤ cut L S)
-    all-moved zero le =
+    all-brought : (k : ℕ) → k ≤ L .nodes → Division (L .nodes) (at k) × (cut L (at k) ≤ cut L S)
+    all-brought zero le =
         let none : (v : ℕ) → at 0 v ≡ S v = λ v. ap S (upto-here 0 v (omega arith)) in
         (division-ext (L .nodes) S (at 0) none d, omega (arith, cut-ext L (at 0) S none))
-    all-moved (suc k) le =
-        let (before, less) = all-moved k (omega arith) in
+    all-brought (suc k) le =
+        let (before, less) = all-brought k (omega arith) in
         ⊎-elim
         (λ e. (division-ext (L .nodes) (at k) (at (suc k)) (at-same k e) before, omega (arith, cut-ext L (at (suc k)) (at k) (at-same k e))))
         (λ ne.
         let l : k < L .nodes = omega arith in
         let two : k ≡ to k → ⊥ = λ q. ne (sym q) in
-        let more = moved-less L (at k) k (to k) two (hangs .heavy k l ne) in (
-          division-ext (L .nodes) (moved (at k) k (to k)) (at (suc k)) (at-moved k l)
-              (moved-division L acc x (at k) before (omega arith) k (to k) l (hangs .inside k l) two (hangs .many k l ne)),
-          omega (arith, cut-ext L (at (suc k)) (moved (at k) k (to k)) (at-moved k l)),
+        let more = brought-less L (at k) k (to k) two (hangs .heavy k l ne) in (
+          division-ext (L .nodes) (brought (at k) k (to k)) (at (suc k)) (at-brought k l)
+              (brought-division L acc x (at k) before (omega arith) k (to k) l (hangs .inside k l) two (hangs .many k l ne)),
+          omega (arith, cut-ext L (at (suc k)) (brought (at k) k (to k)) (at-brought k l)),
         ))
         (cases-eq (to k) k)
 
@@ -277,7 +277,7 @@ module _ (L : LinkList) (acc : Accepted L) (x : ℕ) (to : ℕ → ℕ) (hangs :
       ⊎-elim
       (λ lt.
       let n = L .nodes in
-      let (there, less) = all-moved S d lt n (omega arith) in
+      let (there, less) = all-brought S d lt n (omega arith) in
       let whole : (u v : ℕ) → u < n → v < n → name u ≡ name v → S (upto n u) ≡ S (upto n v) = λ u v lu lv e.
       ap S (upto-there n u lu ∙ one u v lu lv e ∙ sym (upto-there n v lv)) in
       omega (arith, gathered-none L M acc name gathers x none (λ v. S (upto n v)) whole there))

@@ -6,7 +6,6 @@ pub mod Least
 pub mod Question
 pub mod Side
 pub mod Limits
-pub mod Runs
 pub mod Floor
 pub mod Hang
 pub mod Wrong

@@ -17,7 +17,7 @@ use Rattle.answers.specs.declared.Found as Answered
 use Rattle.answers.specs.Paper.{foundPaper}
 use Rattle.read.specs.declared.Scan.{Scan}
 use Rattle.read.specs.declared.Run as Code
-use Rattle.read.specs.Scan.{scanOf, judged, noRoom, scanCheck, scanAnswer}
+use Rattle.read.specs.Scan.{scanOf, judged, anyShort, scanCheck, scanAnswer}
 use Rattle.read.proofs.State.{told-check}
 
 judged-stopped : (r : Run) (num place : ℕ) → judged r ≡ Code.Run.Stopped num place → r ≡ stopped num place
@@ -30,7 +30,7 @@ judged-ran (stopped k p) c e = absurd (let z : _≡_ {A = ℕ} 0 1 = cc in omega
 
 -- the checks of a run that ran, by its state
 run-check : (s : List ℕ) (f : Found) (ra rb rc : ℕ)
-    → runCheck s (ran f) ra rb rc ≡ scanCheck (scanOf f) (trailerAt s) (countOf s) (noRoom (length (f .rows)) ra rb rc)
+    → runCheck s (ran f) ra rb rc ≡ scanCheck (scanOf f) (trailerAt s) (countOf s) (anyShort (length (f .rows)) ra rb rc)
 run-check s f ra rb rc =
     rw (list-parts, length-map (f .rows) (λ r. r .a), length-map (f .rows) (λ r. r .b), length-map (f .rows) (λ r. r .w), eqb-same, told-check)
 
@@ -51,14 +51,14 @@ module _ {s : List ℕ} (ok : Framed s) (ra rb rc : ℕ) where
   answer-stopped num place e = rw (file-check, judged-stopped (runOf s) num place e)
 
   answer-found : (f : Found) → runOf s ≡ ran f
-      → scanAnswer (scanOf f) (trailerAt s) (countOf s) (noRoom (length (f .rows)) ra rb rc) ≡ readAnswer s ra rb rc
+      → scanAnswer (scanOf f) (trailerAt s) (countOf s) (anyShort (length (f .rows)) ra rb rc) ≡ readAnswer s ra rb rc
   answer-found f e = rw (file-check, e, run-check s f ra rb rc, length-map (f .rows) (λ r. r .a))
 
   pub answer-ran : (c : Scan) → judged (runOf s) ≡ Code.Run.Ran c
-      → scanAnswer c (trailerAt s) (countOf s) (noRoom (c .rows) ra rb rc) ≡ readAnswer s ra rb rc
+      → scanAnswer c (trailerAt s) (countOf s) (anyShort (c .rows) ra rb rc) ≡ readAnswer s ra rb rc
   answer-ran c e =
       let f = judged-ran (runOf s) c e in
-      ap (λ d. scanAnswer d (trailerAt s) (countOf s) (noRoom (d .rows) ra rb rc)) (f .2) ∙ answer-found (f .0) (f .1)
+      ap (λ d. scanAnswer d (trailerAt s) (countOf s) (anyShort (d .rows) ra rb rc)) (f .2) ∙ answer-found (f .0) (f .1)
 
 -- ---- what an answer says of the checks
 

@@ -92,8 +92,9 @@ judged (stopped num at) = Run.Stopped num at
 
 -- ---- what is left to check at the end of a run
 
-abbrev pub noRoom : ℕ → ℕ → ℕ → ℕ → Bool
-noRoom rows ra rb rw = ltb ra rows || ltb rb rows || ltb rw rows
+-- one of three lent lists has no place for each row
+abbrev pub anyShort : ℕ → ℕ → ℕ → ℕ → Bool
+anyShort rows ra rb rw = ltb ra rows || ltb rb rows || ltb rw rows
 
 abbrev pub scanCheck : Scan → ℕ → ℕ → Bool → Check
 scanCheck c end count short =

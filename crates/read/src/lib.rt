@@ -16,7 +16,7 @@ ghost use Rattle.meaning.specs.Calls.{readAnswer};
 ghost use Rattle.answers.specs.Paper.{toldCheck, foundPaper};
 ghost use Rattle.roundtrip.specs.Promises.{Reads};
 ghost use Rattle.lists.specs.Parts.{rowNumbers};
-ghost use Rattle.read.specs.Scan.{itemPaper, nodesAt, rowAt, scanRow, stepOf, Light, Stepped, judged, noRoom, scanCheck, scanAnswer};
+ghost use Rattle.read.specs.Scan.{itemPaper, nodesAt, rowAt, scanRow, stepOf, Light, Stepped, judged, anyShort, scanCheck, scanAnswer};
 ghost use Rattle.read.specs.Fill.{LaysRow, laidAt};
 
 // What a record is, with the offset after it.
@@ -209,7 +209,7 @@ fn run_from(s: &[u8], start: usize, end: usize) -> Run
 // ---- the whole file
 
 fn no_room(rows: usize, ra: usize, rb: usize, rw: usize) -> bool
-    ensures { λ r. ⌜ r ≡ noRoom rows ra rb rw ⌝ }
+    ensures { λ r. ⌜ r ≡ anyShort rows ra rb rw ⌝ }
 {
     if ra < rows || rb < rows {
         return true;

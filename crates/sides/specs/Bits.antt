@@ -1,13 +1,14 @@
 -- Words of a side: which nodes two words hold, and what the calls of this crate answer.
-use Prim.Native.Nat.{ℕ, zero, suc, _+_, _/_, _%_, _^_, min}
+use Prim.Native.Nat.{ℕ, zero, suc, _+_, _/_, _%_, min}
 use mathlib.Core.Path.{_≡_}
 use mathlib.Core.Bool.{Bool, cond}
 use mathlib.Core.List.{List, [], _∷_, _++_}
 use lib.ListN.{length, getD}
 use lib.Dec.{eqb, ltb}
-use Rattle.meaning.specs.Sums.{sum, on}
+use Rattle.meaning.specs.Sums.{on}
 use Rattle.meaning.specs.Numbers.{Check, when, shortRoom, Answer, answered, after}
 use Rattle.meaning.specs.Split.{word, sizeOf}
+use Rattle.laws.specs.Words.{bitsOf}
 use Rattle.sides.specs.declared.Words.{Words}
 
 -- the set bits among the lowest d of x, bit 0 being numbered `from`, rising
@@ -32,7 +33,7 @@ membersLeaves low high old = after (membersCheck low high (length old)) (nodesIn
 
 -- the m bits of S from the node `from` on, the lowest first
 unfoldable pub bits : ℕ → ℕ → (ℕ → Bool) → ℕ
-bits from m S = sum m (λ v. on (S (from + v)) (2 ^ v))
+bits from m S = bitsOf m (λ v. S (from + v))
 
 -- ---- side: the words and the size of the set of nodes below n, of which only the first 128 count
 

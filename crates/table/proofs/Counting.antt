@@ -32,8 +32,8 @@ module _ (x y c : ℕ) (deg : List ℕ) (two : x ≡ y → ⊥) where
   pub second : getD once y 0 ≡ getD deg y 0
   second = getD-set-other deg x y (getD deg x 0 + c) 0 (λ e. two (sym e))
 
-  pub two-stores : x < length deg → y < length deg → DegreeAdded x y c deg (set once y (getD once y 0 + c))
-  two-stores hx hy =
+  pub row-counted : x < length deg → y < length deg → DegreeAdded x y c deg (set once y (getD once y 0 + c))
+  row-counted hx hy =
       record {
         size = length-set once y (getD once y 0 + c) ∙ length-set deg x (getD deg x 0 + c);
         added = λ v.

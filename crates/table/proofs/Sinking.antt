@@ -6,21 +6,18 @@ use mathlib.Core.List.{List}
 use Prim.Native.Nat.{ℕ, suc, _-_, _≤_, _<_, min}
 use native.Mathlib.Omega.{arith}
 use lib.ListN.{length, getD}
-use lib.Dec.{ltb}
-use borrow.Author.Tests.{le-ltb}
+use borrow.Author.Tests.{lt-ltb, le-ltb}
 use Rattle.meaning.specs.Links.{LinkList}
 use Rattle.meaning.specs.Order.{all, orderOf, backAt}
-use Rattle.meaning.specs.Sums.{on}
 use Rattle.laws.specs.Bools.{on-false}
-use Rattle.laws.specs.Sums.{sum-longer}
+use Rattle.laws.specs.Choose.{size-suc, size-most, size-longer, size-has}
 use Rattle.laws.specs.Lists.{has-at, distinct-eq}
 use Rattle.laws.specs.Rows.{back-nil}
 use Rattle.laws.specs.Order.{length-prefix}
 use Rattle.method.specs.Division.{Division}
 use Rattle.method.specs.Order.{Ordered, order-ordered}
 use Rattle.method.specs.Question.{NoneBelow, one-undivided}
-use Rattle.method.specs.Runs.{runs, runs-suc, runs-most, runs-some}
-use Rattle.method.specs.Floor.{Names, floor-step}
+use Rattle.method.specs.Floor.{begins, runs, Names, floor-step}
 use Rattle.table.specs.declared.Left.{Left}
 use Rattle.table.specs.Floor.{Named, Squeezed, front, Along, Shrinking, Smaller}
 use Rattle.table.proofs.Storing.{few, squeezed-stored, squeezed-gathers}
@@ -62,9 +59,7 @@ module _ {n rows : ℕ} {a b w order back : List ℕ} (s : Shrinking n rows a b 
 
     -- the first node begins a run
     some-run : 1 ≤ runs back best n
-    some-run =
-        let last : suc (n - 1) ≡ n = omega (arith, s .many) in
-        rw (← last) (runs-some back best (n - 1) (begins-low .1))
+    some-run = size-has n (begins back best) 0 some (lt-ltb (getD back 0 0) best (begins-low .1))
 
     -- the last begins none
     fewer-runs : best ≤ getD back (n - 1) 0 → runs back best n < n
@@ -74,9 +69,9 @@ module _ {n rows : ℕ} {a b w order back : List ℕ} (s : Shrinking n rows a b 
         omega (
           arith,
           sums,
-          runs-suc back best (n - 1),
-          on-false (ltb (getD back (n - 1) 0) best) 1 (le-ltb (getD back (n - 1) 0) best le),
-          runs-most back best (n - 1),
+          size-suc (n - 1) (begins back best),
+          on-false (begins back best (n - 1)) 1 (le-ltb (getD back (n - 1) 0) best le),
+          size-most (n - 1) (begins back best),
           s .many,
         )
 
@@ -95,7 +90,7 @@ module _ {n rows : ℕ} {a b w order back : List ℕ} (s : Shrinking n rows a b 
       name-below v h =
           let (p, l, e) = has-at o v (ord .each v h refl) in
           let at : suc (called v) ≡ runs back best (suc p) = ap (λ u. suc (called u)) (sym e) ∙ names p l in
-          omega (arith, at, sum-longer (suc p) n (λ i. on (ltb (getD back i 0) best) 1) (omega (arith, long)), named .begun)
+          omega (arith, at, size-longer (suc p) n (begins back best) (omega (arith, long)), named .begun)
 
       -- one node for each run
       pub joined : {a′ b′ w′ : List ℕ} {left : ℕ} → best ≤ getD back (n - 1) 0 → Squeezed rows name a b w a′ b′ w′ left

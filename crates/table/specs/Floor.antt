@@ -10,7 +10,7 @@ use Rattle.meaning.specs.Sums.{sum, on, differ}
 use Rattle.meaning.specs.Links.{LinkList, given, listOf, Accepted}
 use Rattle.meaning.specs.Order.{orderOf, backAt}
 use Rattle.method.specs.Question.{NoneBelow}
-use Rattle.method.specs.Runs.{runs}
+use Rattle.method.specs.Floor.{runs}
 use Rattle.table.specs.declared.Left.{Left}
 
 -- ---- lists

@@ -2,14 +2,19 @@
 -- the number of theirs.
 use Prim.Native.Nat.{ℕ, _≤_, _<_}
 use mathlib.Core.Path.{_≡_}
+use mathlib.Core.Bool.{Bool}
 use mathlib.Core.List.{List}
 use lib.ListN.{length, getD}
 use lib.Dec.{eqb}
-use Rattle.meaning.specs.Sums.{sum, on}
+use Rattle.meaning.specs.Split.{sizeOf}
 
--- how many of the first v nodes are their own target
+-- a node is its own target
+abbrev pub own : List ℕ → ℕ → Bool
+own to u = eqb (getD to u 0) u
+
+-- how many of the first v nodes are
 abbrev pub keptBelow : List ℕ → ℕ → ℕ
-keptBelow to v = sum v (λ u. on (eqb (getD to u 0) u) 1)
+keptBelow to v = sizeOf v (own to)
 
 -- each of the first `count` nodes has the number of nodes before it that are their own target; c of all are
 pub record KeptNumbered (count : ℕ) (to name name′ : List ℕ) (c : ℕ) : Type 0 where

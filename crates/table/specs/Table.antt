@@ -18,10 +18,14 @@ mark = 1073741824
 abbrev pub cell : LinkList → ℕ → ℕ → ℕ
 cell L p q = on (not (eqb p q)) (back L (eqb p) q)
 
+-- what stands in the table between p and q
+abbrev pub cellAt : List ℕ → ℕ → ℕ → ℕ
+cellAt m p q = getD m (p * 128 + q) 0
+
 -- m is the table of L: the cables between p and q stand at p * 128 + q
 pub record Holds (L : LinkList) (m : List ℕ) : Type 0 where
   pub size : length m ≡ 16384
-  pub cells : (p q : ℕ) → p < 128 → q < 128 → getD m (p * 128 + q) 0 ≡ cell L p q
+  pub cells : (p q : ℕ) → p < 128 → q < 128 → cellAt m p q ≡ cell L p q
 
 -- three lists that make rows between nodes below 128, no row with both ends equal
 pub record Rows (a b w : List ℕ) : Type 0 where
@@ -54,7 +58,7 @@ pub record Ran (L : LinkList) (live : ℕ → Bool) (count start : ℕ) (order o
 -- a row from x to y of c cables was added to the table
 pub record Joined (x y c : ℕ) (m m′ : List ℕ) : Type 0 where
   pub size : length m′ ≡ length m
-  pub more : (p q : ℕ) → p < 128 → q < 128 → getD m′ (p * 128 + q) 0 ≡ getD m (p * 128 + q) 0 + reach (eqb p) q x y c
+  pub more : (p q : ℕ) → p < 128 → q < 128 → cellAt m′ p q ≡ cellAt m p q + reach (eqb p) q x y c
 
 -- a row was added to the first n scores, of which `top` is the highest
 pub record Added (n : ℕ) (row score score′ : List ℕ) (top : ℕ) : Type 0 where
@@ -79,12 +83,12 @@ pub record Placeable (n x : ℕ) (m score : List ℕ) : Type 0 where
   pub table-size : length m ≡ 16384
   pub score-size : length score ≡ 128
   pub marked : mark ≤ getD score x 0
-  pub light : (v : ℕ) → v < n → getD score v 0 + getD m (x * 128 + v) 0 < 2147483648
+  pub light : (v : ℕ) → v < n → getD score v 0 + cellAt m x v < 2147483648
 
 -- x lost its mark and its row was added; among the first n scores r is the first of the highest
 pub record Placed (n x : ℕ) (m score score′ : List ℕ) (r : ℕ) : Type 0 where
   pub size : length score′ ≡ length score
-  pub more : (v : ℕ) → v < n → getD score′ v 0 ≡ getD score v 0 - on (eqb v x) mark + getD m (x * 128 + v) 0
+  pub more : (v : ℕ) → v < n → getD score′ v 0 ≡ getD score v 0 - on (eqb v x) mark + cellAt m x v
   pub inside : r < n
   pub most : (v : ℕ) → v < n → getD score′ v 0 ≤ getD score′ r 0
   pub first : (v : ℕ) → v < r → getD score′ v 0 < getD score′ r 0

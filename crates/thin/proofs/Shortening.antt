@@ -11,8 +11,9 @@ use lib.ListN.{length, getD, set, length-map}
 use lib.Dec.{ltb}
 use borrow.Author.Tests.{lt-ltb, le-ltb}
 use Rattle.meaning.specs.Sums.{on, those, laid}
-use Rattle.laws.specs.Bools.{bool-cases, on-most, cond-true, cond-false}
-use Rattle.laws.specs.Sums.{sum-suc, sum-most}
+use Rattle.laws.specs.Bools.{bool-cases, cond-true, cond-false}
+use Rattle.laws.specs.Choose.{size-most}
+use Rattle.laws.specs.Sums.{sum-suc}
 use Rattle.laws.specs.Lists.{laid-more, those-yes, those-no, length-those}
 use Rattle.thin.specs.Passes.{keptAt, Put, Shortened}
 
@@ -55,7 +56,7 @@ length-those-more i t =
     omega (arith, ap (λ k. length (those k t)) (add-one i), length-those (suc i) t, length-those i t, sum-suc i (λ v. on (t v) 1))
 
 pub those-most : (n : ℕ) (t : ℕ → Bool) → length (those n t) ≤ n
-those-most n t = omega (arith, length-those n t, sum-most n (λ v. on (t v) 1) 1 (λ v h. on-most (t v) 1))
+those-most n t = omega (arith, length-those n t, size-most n t)
 
 -- ---- all rows
 

@@ -18,8 +18,9 @@ use Rattle.meaning.specs.Numbers.{fine}
 use Rattle.meaning.specs.Links.{LinkList, listOf, links, Accepted, listCheck}
 use Rattle.meaning.specs.Forest.{kept, thinned, stays, shortOf}
 use Rattle.meaning.specs.Split.{cut}
-use Rattle.laws.specs.Bools.{on-zero, on-most}
-use Rattle.laws.specs.Sums.{sum-suc, sum-ext, sum-most}
+use Rattle.laws.specs.Bools.{on-zero}
+use Rattle.laws.specs.Choose.{size-most}
+use Rattle.laws.specs.Sums.{sum-suc, sum-ext}
 use Rattle.laws.specs.Accept.{accepted-fine}
 use Rattle.laws.specs.Lists.{those-yes, those-no, length-those, those-below, those-pass}
 use Rattle.thinning.specs.Place.{by-test}
@@ -82,7 +83,7 @@ module _ (L : LinkList) (o : List ℕ) (k : ℕ) where
   unfolding stays
   short-rows =
       rw (short-row-count, length-those (L .rows) (λ r. ltb 0 (kept L o k r)))
-      (omega (arith, sum-most (L .rows) (λ r. on (ltb 0 (kept L o k r)) 1) 1 (λ r h. on-most (ltb 0 (kept L o k r)) 1)))
+      (omega (arith, size-most (L .rows) (λ r. ltb 0 (kept L o k r))))
 
   -- a sum over rows in which a weight of 0 counts for nothing is the same over both lists
   short-sum :

@@ -1,16 +1,9 @@
 -- `divisions::tried_rows` is safe and ends: the front of each list has as many elements as are asked for. Assumes nothing.
-use mathlib.Core.Path.{_≡_, sym}
-use mathlib.Core.List.{List}
-use Prim.Native.Nat.{ℕ, _≤_}
-use lib.ListN.{length, take}
+use mathlib.Core.Path.{sym}
 use lib.Seq.{length-take-le}
 use borrow.Author.Needs.{needs}
 use Rattle.divisions.proofs.tried_rows.Statement.{statement}
 use Rattle.divisions.proofs.tried_rows.Tie as tie
-
--- so many elements has the front of a list
-front : (n : ℕ) (l : List ℕ) → n ≤ length l → n ≡ length (take n l)
-front n l h = sym (length-take-le n l h)
 
 counted-requires : tie.Need-counted-requires
 counted-requires c κs = search needs
@@ -31,13 +24,13 @@ returns-3 : tie.Need-returns-3
 returns-3 c = search needs
 
 slice-aggregate-tried : tie.Need-slice-aggregate-tried
-slice-aggregate-tried c = front _ _ (c .before .before .before .if1 .left)
+slice-aggregate-tried c = sym (length-take-le _ _ (c .before .before .before .if1 .left))
 
 slice-aggregate-tried-2 : tie.Need-slice-aggregate-tried-2
-slice-aggregate-tried-2 c = front _ _ (c .before .before .before .if2 .left)
+slice-aggregate-tried-2 c = sym (length-take-le _ _ (c .before .before .before .if2 .left))
 
 slice-aggregate-tried-3 : tie.Need-slice-aggregate-tried-3
-slice-aggregate-tried-3 c = front _ _ (c .before .before .before .if3 .left)
+slice-aggregate-tried-3 c = sym (length-take-le _ _ (c .before .before .before .if3 .left))
 
 tried-requires : tie.Need-tried-requires
 tried-requires c κs = search needs

@@ -1,25 +1,18 @@
 -- `limits::first_rows` meets its contract: the front of each list has as many elements as are asked for. Assumes nothing.
-use mathlib.Core.Path.{_≡_, sym}
-use mathlib.Core.List.{List}
-use Prim.Native.Nat.{ℕ, _≤_}
-use lib.ListN.{length, take}
+use mathlib.Core.Path.{sym}
 use lib.Seq.{length-take-le}
 use borrow.Author.Needs.{needs}
 use Rattle.limits.proofs.first_rows.Statement.{statement}
 use Rattle.limits.proofs.first_rows.Tie as tie
 
--- so many elements has the front of a list
-front : (n : ℕ) (l : List ℕ) → n ≤ length l → n ≡ length (take n l)
-front n l h = sym (length-take-le n l h)
-
 slice-aggregate-summary : tie.Need-slice-aggregate-summary
-slice-aggregate-summary c = front _ _ (c .before .before .before .before .before .pre .0)
+slice-aggregate-summary c = sym (length-take-le _ _ (c .before .before .before .before .before .pre .0))
 
 slice-aggregate-summary-2 : tie.Need-slice-aggregate-summary-2
-slice-aggregate-summary-2 c = front _ _ (c .before .before .before .before .before .before .pre .1)
+slice-aggregate-summary-2 c = sym (length-take-le _ _ (c .before .before .before .before .before .before .pre .1))
 
 slice-aggregate-summary-3 : tie.Need-slice-aggregate-summary-3
-slice-aggregate-summary-3 c = front _ _ (c .before .before .before .before .before .before .before .pre .2)
+slice-aggregate-summary-3 c = sym (length-take-le _ _ (c .before .before .before .before .before .before .before .pre .2))
 
 summary-requires : tie.Need-summary-requires
 summary-requires c κs = search needs

@@ -1,7 +1,7 @@
 -- `table::add_degree` meets its contract: the ends differ, so each place is stored to once. Assumes nothing.
 use native.Mathlib.Omega.{arith}
 use borrow.Author.Needs.{needs}
-use Rattle.table.proofs.Counting.{second, two-stores}
+use Rattle.table.proofs.Counting.{second, row-counted}
 use Rattle.table.proofs.add_degree.Statement.{statement}
 use Rattle.table.proofs.add_degree.Tie as tie
 
@@ -43,7 +43,7 @@ same-length c = search needs
 returns : tie.Need-returns
 returns c =
     let s = c .before .before in
-    two-stores (s .args .x) (s .args .y) (s .args .c) (s .args .deg .now) (s .pre .0 .2) (s .pre .0 .0) (s .pre .0 .1)
+    row-counted (s .args .x) (s .args .y) (s .args .c) (s .args .deg .now) (s .pre .0 .2) (s .pre .0 .0) (s .pre .0 .1)
 
 pub add-degree-spec : {M : Type 1} → statement M
 add-degree-spec =

@@ -2,13 +2,13 @@
 use mathlib.Core.Path.{_≡_, sym, ap, _∙_}
 use Prim.Native.Nat.{_-_, _≤_}
 use native.Mathlib.Omega.{arith}
-use lib.ListN.{getD}
 use lib.Dec.{eqb}
 use borrow.Author.Needs.{needs}
 use Rattle.meaning.specs.Sums.{on}
 use Rattle.laws.specs.Filling.{Upto, upto-none, upto-more}
-use Rattle.table.specs.Kept.{keptBelow}
-use Rattle.table.proofs.Gathering.{own-none, own-more, own-most}
+use Rattle.laws.specs.Choose.{size-none, size-most}
+use Rattle.table.specs.Kept.{own, keptBelow}
+use Rattle.table.proofs.Gathering.{own-more}
 use Rattle.table.proofs.number_kept.Statement.{statement}
 use Rattle.table.proofs.number_kept.Tie as tie
 
@@ -19,12 +19,12 @@ abbrev μ-loop : tie.MeasureT-loop
 μ-loop count to name₀ c₀ v₀ name c v = count - v
 
 loop-holds : tie.Need-loop-holds Inv-loop μ-loop
-loop-holds c = (omega arith, sym (own-none (c .before .before .args .to .now)), upto-none _ _)
+loop-holds c = (omega arith, sym (size-none (own (c .before .before .args .to .now))), upto-none _ _)
 
 cast-name : tie.Need-cast-name Inv-loop μ-loop
 cast-name c =
     let l = c .before in
-    omega (arith, l .loop .inv .1, own-most (l .before .before .before .args .to .now) (l .loop .v))
+    omega (arith, l .loop .inv .1, size-most (l .loop .v) (own (l .before .before .before .args .to .now)))
 
 mul-name : tie.Need-mul-name Inv-loop μ-loop
 mul-name c = search needs
@@ -47,7 +47,7 @@ count-if-requires c κs = search needs
 add-c : tie.Need-add-c Inv-loop μ-loop
 add-c c =
     let l = c .before .before .before .before in
-    omega (arith, c .count-if .ensures .1, l .loop .inv .1, own-most (l .before .before .before .args .to .now) (l .loop .v))
+    omega (arith, c .count-if .ensures .1, l .loop .inv .1, size-most (l .loop .v) (own (l .before .before .before .args .to .now)))
 
 add-v : tie.Need-add-v Inv-loop μ-loop
 add-v c = search needs
@@ -59,10 +59,10 @@ loop-again : tie.Need-loop-again Inv-loop μ-loop
 loop-again c =
     let l = c .before .before .before .before in
     let to = l .before .before .before .args .to .now in
-    let own : c .count-if .result ≡ on (eqb (getD to (l .loop .v) 0) (l .loop .v)) 1 =
+    let one : c .count-if .result ≡ on (own to (l .loop .v)) 1 =
     c .count-if .ensures .0 ∙ ap (λ x. on (eqb x (l .loop .v)) 1) (c .before .wide .ensures) in (
       omega arith,
-      own-more to (l .loop .v) (l .loop .inv .1) own,
+      own-more to (l .loop .v) (l .loop .inv .1) one,
       upto-more (l .loop .c) (l .loop .inv .2) (omega arith) (l .loop .inv .1),
     )
 

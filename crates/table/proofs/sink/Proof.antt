@@ -1,3 +1,5 @@
+-- `table::sink` meets its contract: what no division of the list that is left is below, up to `best`, none of the given list is below, and a list
+-- of one node has no division. The measure is the number of nodes left. Assumes nothing.
 use Rattle.table.specs.Floor.{front}
 use Rattle.table.proofs.Sinking.{Sunk, sunk-one, sunk-next}
 use borrow.Author.Needs.{needs}
