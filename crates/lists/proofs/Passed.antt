@@ -6,14 +6,13 @@ use mathlib.Core.Bool.{Bool, false}
 use lib.ListN.{length}
 use Rattle.meaning.specs.Numbers.{fine}
 use Rattle.meaning.specs.Links.{Given, listOf, listCheck}
-use Rattle.laws.specs.Accept.{GoodRow, row-good, rows-fine, nodes-limit, size-even, size-limit, check-fine}
+use Rattle.laws.specs.Accept.{Even, GoodRow, row-good, rows-fine, nodes-limit, size-even, size-limit, check-fine}
 
 -- a list that passed, in a call whose lent outputs are too short where `short` says so
 pub record Passed (g : Given) (short : Bool) : Type 0 where
   pub some-node : 1 ≤ g .n
   pub few-nodes : g .n ≤ 128
-  pub same-b : length (g .la) ≡ length (g .lb)
-  pub same-w : length (g .la) ≡ length (g .lw)
+  pub even : Even g
   pub few-rows : length (g .la) ≤ 2048
   pub roomy : short ≡ false
   pub rows : (r : ℕ) → r < length (g .la) → GoodRow (listOf g) r
@@ -22,12 +21,10 @@ pub passed : (g : Given) (short : Bool) → listCheck g short ≡ fine → Passe
 passed g short e =
     let c = check-fine g short e in
     let nodes = nodes-limit (g .n) (c .nodes-good) in
-    let even = size-even g (c .size-good) in
     record {
       some-node = nodes .0;
       few-nodes = nodes .1;
-      same-b = even .as-b;
-      same-w = even .as-w;
+      even = size-even g (c .size-good);
       few-rows = size-limit g (c .size-good);
       roomy = c .room-good;
       rows = λ r below. row-good (listOf g) r (rows-fine (listOf g) (length (g .la)) (c .rows-good) r below);

@@ -69,7 +69,7 @@ module _ (g : Given) (k : ℕ) (old : List ℕ) {first first′ : List ℕ} {t :
       let p = list-passed h is in
       let n = length (g .la) in
       let roomy : n ≤ length old = ltb-false (length old) n (p .roomy) in
-      (omega (arith, p .same-w, p .few-rows), omega (arith, p .same-w))
+      (omega (arith, p .even .as-w, p .few-rows), omega (arith, p .even .as-w))
 
   kept-answer : toldPaper t ≡ answered (keptCheck g k (length old)) []
   kept-answer = told-answered t ∙ ap (λ c. answered c []) (h .found)
@@ -84,7 +84,7 @@ module _ (g : Given) (k : ℕ) (old : List ℕ) {first first′ : List ℕ} {t :
         answer = sym (ap toldPaper is) ∙ kept-answer;
         weights =
             e
-            ∙ ap (λ n. laid (listed n (keptAt k first′ (g .lw))) old) (sym (list-passed h is .same-w))
+            ∙ ap (λ n. laid (listed n (keptAt k first′ (g .lw))) old) (sym (list-passed h is .even .as-w))
             ∙ ap (λ l. laid l old) (kepts g (order0 g) k first′ first (h .numbers is))
             ∙ sym (ap (λ c. after c (keptsOf (listOf g) (order0 g) k) old) (all-fine h is));
       }
@@ -116,8 +116,8 @@ module _ (g : Given) (k : ℕ) (a₀ b₀ w₀ : List ℕ) {first first′ : Lis
       let n = length (g .la) in
       let ab = or-false-left (ltb (length a₀) n || ltb (length b₀) n) (ltb (length w₀) n) (p .roomy) in
       record {
-        same-b = p .same-b;
-        same-w = p .same-w;
+        same-b = p .even .as-b;
+        same-w = p .even .as-w;
         numbered = omega (arith, p .few-rows);
         room-a = ltb-false (length a₀) n (or-false-left (ltb (length a₀) n) (ltb (length b₀) n) ab);
         room-b = ltb-false (length b₀) n (or-false-right (ltb (length a₀) n) (ltb (length b₀) n) ab);

@@ -4,8 +4,9 @@ use native.Mathlib.Omega.{arith}
 use denote.Ref.{now}
 use borrow.Author.Tests.{ltb-false}
 use Rattle.meaning.specs.Links.{Given, given}
+use Rattle.laws.specs.Accept.{fine-accepted}
 use Rattle.lists.proofs.Checks.{found-fine}
-use Rattle.lists.proofs.Passed.{passed, accepted}
+use Rattle.lists.proofs.Passed.{passed}
 use Rattle.forest.proofs.Call.{refuses, numbers}
 use borrow.Author.Needs.{needs}
 use Rattle.forest.proofs.forest.Statement.{statement}
@@ -37,8 +38,8 @@ number-requires c κs =
     let a = c .before .before .before in
     let ok = found-fine (a .check .result) (a .check .ensures) (c .before .enum-told .given .1) in
     let p = passed (list a) _ ok in (
-      accepted (list a) _ p (λ r. omega (arith, a .before .before .shared-slice-known3 .given r)),
-      record { same-b = p .same-b; same-w = p .same-w; room = ltb-false _ _ (p .roomy) },
+      fine-accepted (list a) _ (λ r h. omega (arith, a .before .before .shared-slice-known3 .given r)) ok,
+      record { same-b = p .even .as-b; same-w = p .even .as-w; room = ltb-false _ _ (p .roomy) },
     )
 
 same-length : tie.Need-same-length

@@ -62,7 +62,7 @@ pairs-in-requires c κs = let g = good (c .before) in omega arith
 
 returns-2 : tie.Need-returns-2
 returns-2 c =
-    totals (list (start (c .before .before))) (check-fine (c .before .before)) (good (c .before .before) .same-w)
+    totals (list (start (c .before .before))) (check-fine (c .before .before)) (good (c .before .before) .even .as-w)
     (c .before .links-in .ensures) (c .pairs-in .ensures)
 
 pub summary-spec : {M : Type 1} → statement M

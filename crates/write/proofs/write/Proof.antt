@@ -52,7 +52,7 @@ cast-put-file c = omega (arith, has (c .before) .few-nodes)
 put-file-requires : tie.Need-put-file-requires
 put-file-requires c κs =
     let p = has (c .before) in
-    (p .same-b, (p .same-w, (p .few-rows, ltb-false _ _ (p .roomy))))
+    (p .even .as-b, (p .even .as-w, (p .few-rows, ltb-false _ _ (p .roomy))))
 
 mul-t18 : tie.Need-mul-t18
 mul-t18 c = omega (arith, has (c .before .before .before .before) .few-rows)
