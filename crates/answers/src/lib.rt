@@ -1,6 +1,8 @@
 // What the calls of this library answer: one enum for each kind of answer, and document 01's numbers as constants, each made here
 // and nowhere else. `specs/Paper.antt` gives the paper's number, place and fields for every case of every enum; all promises go
 // through it. No function stands here.
+#![tactic(auto)]
+
 
 // ---- the numbers of document 01's table
 

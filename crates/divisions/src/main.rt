@@ -1,6 +1,8 @@
 // Compares the calls with trying every division, on random small lists (document 01, "What every call owes"): the least value, the
 // value of the side that came with it, "fewer than k?" for every k up to the value and one more, and what thinning for k leaves
 // across every division. Proved safe and ending; what it prints is held to the file `stdout`.
+#![tactic(auto)]
+
 ghost use Rattle.std.specs.Prelude.{◌≡◌, ◌≤◌, ◌<◌};
 
 use answers::{Parted, Wrote};

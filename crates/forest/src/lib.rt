@@ -4,6 +4,8 @@
 // what has reached y when the scan comes to x. One pass over the rows in row order then numbers each row from the cell of its two
 // ends and advances the cell by the row's weight. `forest` promises, for every input, its answer and every place of the lent list
 // (`meaning`'s `firsts_of`).
+#![tactic(auto)]
+
 ghost use Rattle.std.specs.Prelude.{◌≡◌, List, ℕ, ◌+◌, ◌^◌, ◌<◌, length, get_or};
 ghost use Rattle.meaning.specs.Sums.{laid};
 ghost use Rattle.meaning.specs.Links.{LinkList, list_of, given, Accepted};

@@ -2,6 +2,8 @@
 // that is merged in place. Each round orders the groups, notes the value of the last one, and merges the last two. Both calls
 // state their whole answer for every input. `label` gives each node the number of its group, and a side's words are made only when
 // a smaller value is noted.
+#![tactic(auto)]
+
 ghost use Rattle.std.specs.Prelude.{◌≡◌, ℕ, suc, ◌≤◌, ◌<◌, min, max, length, eqb};
 ghost use Rattle.meaning.specs.Sums.{on};
 ghost use Rattle.meaning.specs.Links.{LinkList, given, list_of, Accepted};

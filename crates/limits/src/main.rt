@@ -1,5 +1,7 @@
 // Runs the calls at the limits that document 01 names without a star, and prints the number and the place of each answer.
 // Proved safe and ending; what it prints is held to the file `stdout`.
+#![tactic(auto)]
+
 ghost use Rattle.std.specs.Prelude.{◌≡◌, ◌<◌, ◌≤◌, length};
 
 use answers::{Found, Totals};

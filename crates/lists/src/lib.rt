@@ -2,6 +2,8 @@
 // `check` promises for every input what `list_check` of `meaning` finds; each call says by `short` whether a lent output is too short.
 // Its three parts are there for the reader, which judges rows before they stand in a list: so each of these numbers is made in one place.
 // What an accepted list has, for the calls that go on with one, is in `proofs/Passed.antt`.
+#![tactic(auto)]
+
 ghost use Rattle.std.specs.Prelude.{◌≡◌, ◌<◌, ◌≤◌, length};
 ghost use Rattle.meaning.specs.Numbers.{◌⟫◌};
 ghost use Rattle.meaning.specs.Links.{given, list_of, row_check, list_check};

@@ -1,6 +1,8 @@
 // The max-back order of a list from node 0, ties to the smallest number, and the back counts by position (document 01, "Order,
 // forests, thinning"). For every input the call gives the number that document 01's table gives, and every place of the two lent
 // lists holds what the document says: the order and the counts in the first n places after 0, and after a refusal all that it held.
+#![tactic(auto)]
+
 ghost use Rattle.meaning.specs.Links.{given};
 ghost use Rattle.order.specs.Ordered.{Ordered};
 

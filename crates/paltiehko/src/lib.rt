@@ -1,6 +1,8 @@
 // The library as other programs see it: each call under its plain name, as include/paltiehko.h declares it. A function hands its
 // arguments to the proved call and lays the answer out in the eight places of `answer`: number, place, the fields in document 01's
 // order, then zeros. Each promises for every input what `meaning` says of its call, with the answer as `laid_out` lays it.
+#![tactic(auto)]
+
 ghost use Rattle.std.specs.Prelude.{◌≡◌};
 ghost use Rattle.meaning.specs.Numbers.{refused};
 ghost use Rattle.meaning.specs.Links.{given};

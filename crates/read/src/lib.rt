@@ -2,6 +2,8 @@
 // `read` promises, for every list of bytes, the answer that `meaning` defines and every place of the lent lists afterwards.
 // A record is read by `item_at`, which answers an enum. `run_from` reads the run of records from one offset to another and judges its rows
 // on the way, `decide` finds the first number in document 01's order, and only then does `fill` store. No byte of the file is copied.
+#![tactic(auto)]
+
 ghost use Rattle.std.specs.Prelude.{◌≡◌, cond, ◌+◌, ◌*◌, ◌≤◌, ◌<◌, eqb, length, get_or};
 ghost use Rattle.meaning.specs.Sums.{laid};
 ghost use Rattle.meaning.specs.Numbers.{fine, ◌⟫◌};

@@ -1,6 +1,8 @@
 // The printing program of document 01: one file on standard input, its report on standard output, and nothing else. The text is that of
 // `reporting::report`, which is proved for every input; here the bytes are brought in and out. A file is read to its end or to one byte
 // over the 32,768 that a file may have, also where it arrives in parts. What cannot be read or written is told on standard error.
+#![tactic(auto)]
+
 ghost use Rattle.std.specs.Prelude.{◌≤◌, length};
 ghost use Rattle.report.specs.Input.{Within};
 

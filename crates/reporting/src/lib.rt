@@ -2,6 +2,8 @@
 // nodes; with one node the summary, the order and a refusal; of a refused file the refusal alone. `report` promises for every input that
 // the text is `report_of` of `meaning`, whole or not at all, and that 1,024 bytes are always enough. The text is built in local bytes,
 // each function adding its part where the one before ended (`specs/Adds.antt`), and is copied out once its length is known.
+#![tactic(auto)]
+
 ghost use Rattle.std.specs.Prelude.{◌≡◌, false, [], ◌∷◌, ◌++◌, ◌≤◌, length};
 ghost use Rattle.meaning.specs.Numbers.{fine};
 ghost use Rattle.meaning.specs.Links.{given, list_of, list_check};

@@ -1,6 +1,8 @@
 // The side of a division as two 64-bit words, node i being bit i mod 64 of word i div 64 ("The least split" of document 01): made
 // from the nodes' group numbers, counted by the ones of both words, and listed from the lowest by trailing zeros. Both calls state
 // their whole answer for every input, and `proofs/Laws.antt` shows that the words of a set of nodes list exactly its members.
+#![tactic(auto)]
+
 ghost use Rattle.std.specs.Prelude.{◌≡◌, ◌++◌, ◌+◌, ◌-◌, ◌≤◌, min, length, take, drop};
 ghost use Rattle.answers.specs.Paper.{wrote_paper};
 ghost use Rattle.sides.specs.Bits.{bits, rising, members_answer, members_leaves, labelled, Sided};

@@ -1,6 +1,8 @@
 // The summary of a list: n, its rows, its links (the sum of the weights) and its pairs (the different (a, b) as written), as document
 // 01's "The least split" ends. `summary` promises for every input what `summary_answer` of `meaning` says. A row's pair is counted at
 // its first row; the loop that looks for it among the rows before has no branch, so that it runs on whole vectors of rows.
+#![tactic(auto)]
+
 ghost use Rattle.std.specs.Prelude.{◌≡◌, [], ◌<◌, ◌≤◌, length, get_or};
 ghost use Rattle.meaning.specs.Sums.{sum};
 ghost use Rattle.meaning.specs.Links.{given, list_of, same_before, pairs};

@@ -2,6 +2,8 @@
 // under all divisions that orders give. `fill` makes the table of a list; `run` writes an order of the live nodes with its back counts, a whole
 // row of the table at a step, ties to the smallest number; `floor` answers a number that no division is below. These are shared by the calls
 // for users, which make every check first: so they, and no other functions of the repository between crates, have a `requires`.
+#![tactic(auto)]
+
 ghost use Rattle.std.specs.Prelude.{◌≡◌, Bool, true, ℕ, ◌+◌, ◌-◌, ◌≤◌, ◌<◌, min, length, get_or, ltb};
 ghost use Rattle.meaning.specs.Sums.{on};
 ghost use Rattle.meaning.specs.Links.{LinkList, given, list_of, Accepted};

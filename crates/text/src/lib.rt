@@ -1,6 +1,8 @@
 // Text in lent bytes: a word as it is, and a number in plain decimal after a space. Each call lays its bytes at a place, whole or
 // not at all, and answers the place after them, so that a line is one call after the other ("The printing program" of document 01).
 // The bytes are those of `meaning`'s `Report.antt`, and `specs/Put.antt` says what stands where afterwards, for every input.
+#![tactic(auto)]
+
 ghost use Rattle.std.specs.Prelude.{◌≡◌, [], ◌∷◌, ◌+◌, ◌<◌, ◌≤◌, length, drop};
 ghost use Rattle.std.proofs.Math.Seq.{paste};
 ghost use Rattle.meaning.specs.Report.{decimal, spaced};

@@ -2,6 +2,8 @@
 //
 // Both calls number the rows by `forest` and pass over them once. `kept` promises, for every input, its answer and every place of the
 // lent list (`meaning`'s `kepts_of`); `short` the same of its three lists and the number of rows written (`short_given`).
+#![tactic(auto)]
+
 ghost use Rattle.std.specs.Prelude.{◌≡◌, ◌≤◌, ◌<◌, length};
 ghost use Rattle.meaning.specs.Sums.{laid, listed};
 ghost use Rattle.meaning.specs.Links.{given};

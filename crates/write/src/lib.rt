@@ -1,6 +1,8 @@
 // The writer of "The file": a list of links in, its file out, into lent bytes: start 0, the kind 1 record, the rows in order, the trailer.
 // `write` promises, for every input, the answer that `meaning` defines (12 + 8 x rows, or the list's own number) and every lent byte afterwards.
 // The list is checked whole before the first byte is stored, by the one check of the project.
+#![tactic(auto)]
+
 ghost use Rattle.std.specs.Prelude.{◌≡◌, [], ◌∷◌, ◌++◌, ℕ, ◌+◌, ◌*◌, ◌≤◌, length, ltb};
 ghost use Rattle.std.proofs.lemmas.List.Edits.{sets};
 ghost use Rattle.meaning.specs.Sums.{laid};
