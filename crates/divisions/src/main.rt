@@ -6,13 +6,13 @@
 ghost use Rattle.std.specs.Prelude.{◌≡◌, ◌≤◌, ◌<◌};
 
 use answers::{Parted, Wrote};
-use libc::STDOUT_FILENO;
+use std::io;
 
 // How many lists are drawn.
 const LISTS: u32 = 2000;
 
 // A list of up to 12 rows on 2 to 8 nodes, and the state of the random numbers after it was drawn.
-#[derive(Drop)]
+#[derive(Clone, Copy)]
 struct Site {
     pub n: u32,
     pub rows: usize,
@@ -173,7 +173,7 @@ fn least_agrees(n: u32, a: &[u16], b: &[u16], w: &[u16]) -> bool {
 }
 
 // What asking for a split below k told: a split as it should be, none as it should be, or neither.
-#[derive(Drop)]
+#[derive(Clone, Copy)]
 enum Heard {
     Yes,
     Nothing,
@@ -244,7 +244,7 @@ fn thinning_agrees(n: u32, a: &[u16], b: &[u16], w: &[u16], k: u32) -> bool {
 // ---- the run
 
 // What was counted so far.
-#[derive(Drop)]
+#[derive(Clone, Copy)]
 struct Tally {
     yes: u32,
     nothing: u32,
@@ -315,13 +315,11 @@ fn tried_site(t: Tally, s: Site) -> Tally {
     tried_rows(t, s.n, s.rows, &a, &b, &w)
 }
 
-fn print(what: &[u8], x: u32) {
-    io::write_all(STDOUT_FILENO, what);
-    io::print_decimal(STDOUT_FILENO, wide(x));
-    io::write_all(STDOUT_FILENO, b"\n");
+fn print(rt: &impl Print, what: &str, x: u32) -> io::Result<()> {
+    println!(rt; "{what}{x}")
 }
 
-fn main() {
+fn main(rt: HostRuntime) -> io::Result<()> {
     let mut t = Tally {
         yes: 0,
         nothing: 0,
@@ -335,8 +333,8 @@ fn main() {
         t = tried_site(t, s);
         i += 1;
     }
-    print(b"random lists of 2 to 8 nodes: ", LISTS);
-    print(b"asked for k from 1 to 8, a split given: ", t.yes);
-    print(b"asked for k from 1 to 8, none: ", t.nothing);
-    print(b"answers that trying every division contradicts: ", t.wrong);
+    print(&rt, "random lists of 2 to 8 nodes: ", LISTS)?;
+    print(&rt, "asked for k from 1 to 8, a split given: ", t.yes)?;
+    print(&rt, "asked for k from 1 to 8, none: ", t.nothing)?;
+    print(&rt, "answers that trying every division contradicts: ", t.wrong)
 }

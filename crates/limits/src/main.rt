@@ -5,29 +5,24 @@
 ghost use Rattle.std.specs.Prelude.{◌≡◌, ◌<◌, ◌≤◌, length};
 
 use answers::{Found, Totals};
-use libc::STDOUT_FILENO;
+use std::io;
 
 // Prints `what: number at place`.
-fn line(what: &[u8], number: u32, place: usize) {
-    io::write_all(STDOUT_FILENO, what);
-    io::write_all(STDOUT_FILENO, b": ");
-    io::print_decimal(STDOUT_FILENO, number as u64);
-    io::write_all(STDOUT_FILENO, b" at ");
-    io::print_decimal(STDOUT_FILENO, place as u64);
-    io::write_all(STDOUT_FILENO, b"\n");
+fn line(rt: &impl Print, what: &str, number: u32, place: usize) -> io::Result<()> {
+    println!(rt; "{what}: {number} at {place}")
 }
 
-fn print_totals(what: &[u8], t: Totals) {
+fn print_totals(rt: &impl Print, what: &str, t: Totals) -> io::Result<()> {
     match t {
-        Totals::Summary(_, _, _, _) => line(what, 0, 0),
-        Totals::Refused(number, place) => line(what, number, place),
+        Totals::Summary(_, _, _, _) => line(rt, what, 0, 0),
+        Totals::Refused(number, place) => line(rt, what, number, place),
     }
 }
 
-fn print_found(what: &[u8], f: Found) {
+fn print_found(rt: &impl Print, what: &str, f: Found) -> io::Result<()> {
     match f {
-        Found::Rows(_, _) => line(what, 0, 0),
-        Found::Refused(number, place) => line(what, number, place),
+        Found::Rows(_, _) => line(rt, what, 0, 0),
+        Found::Refused(number, place) => line(rt, what, number, place),
     }
 }
 
@@ -46,37 +41,48 @@ fn ring(ahead: usize) -> [u16; 2049]
 }
 
 // Reads a file whose answer is known by its place in the document.
-fn read_line(what: &[u8], s: &[u8]) {
+fn read_line(rt: &impl Print, what: &str, s: &[u8]) -> io::Result<()> {
     let mut a = [0u16; 4];
     let mut b = [0u16; 4];
     let mut w = [0u16; 4];
-    print_found(what, read::read(s, &mut a, &mut b, &mut w));
+    print_found(rt, what, read::read(s, &mut a, &mut b, &mut w))
 }
 
 // The answer on the first rows of three lists.
-fn first_rows(what: &[u8], n: u32, rows: usize, a: &[u16], b: &[u16], w: &[u16])
+fn first_rows(
+    rt: &impl Print,
+    what: &str,
+    n: u32,
+    rows: usize,
+    a: &[u16],
+    b: &[u16],
+    w: &[u16],
+) -> io::Result<()>
     requires { (rows ≤ length a.now) × (rows ≤ length b.now) × (rows ≤ length w.now) }
 {
     print_totals(
+        rt,
         what,
         summary::summary(n, &a[..rows], &b[..rows], &w[..rows]),
-    );
+    )
 }
 
-fn main() {
+fn main(rt: HostRuntime) -> io::Result<()> {
     let a = ring(0);
     let b = ring(1);
     let w = [1u16; 2049];
-    first_rows(b"128 nodes, 2048 rows", 128, 2048, &a, &b, &w);
-    first_rows(b"129 nodes, 2048 rows", 129, 2048, &a, &b, &w);
-    first_rows(b"128 nodes, 2049 rows", 128, 2049, &a, &b, &w);
-    read_line(b"a file of 7 bytes", &[0, 0, 0, 0, 0, 0x4C, 0x54]);
+    first_rows(&rt, "128 nodes, 2048 rows", 128, 2048, &a, &b, &w)?;
+    first_rows(&rt, "129 nodes, 2048 rows", 129, 2048, &a, &b, &w)?;
+    first_rows(&rt, "128 nodes, 2049 rows", 128, 2049, &a, &b, &w)?;
+    read_line(&rt, "a file of 7 bytes", &[0, 0, 0, 0, 0, 0x4C, 0x54])?;
     read_line(
-        b"start at the trailer",
+        &rt,
+        "start at the trailer",
         &[4, 1, 2, 0, 4, 0, 0, 0, 0, 0, 0x4C, 0x54],
-    );
+    )?;
     read_line(
-        b"start one past it",
+        &rt,
+        "start one past it",
         &[4, 1, 2, 0, 5, 0, 0, 0, 0, 0, 0x4C, 0x54],
-    );
+    )
 }

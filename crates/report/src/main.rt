@@ -7,7 +7,7 @@ ghost use Rattle.std.specs.Prelude.{◌≤◌, length};
 ghost use Rattle.report.specs.Input.{Within};
 
 use answers::Wrote;
-use libc::{STDERR_FILENO, STDIN_FILENO, STDOUT_FILENO};
+use std::io::Read;
 
 // One byte more than a file may have.
 const FILE_SPACE: usize = 32769;
@@ -16,7 +16,7 @@ const FILE_SPACE: usize = 32769;
 const TEXT_SPACE: usize = 1024;
 
 // What came of reading: so many bytes, and whether more may come; or a read failed.
-#[derive(Drop)]
+#[derive(Clone, Copy)]
 enum Input {
     More(usize),
     All(usize),
@@ -24,15 +24,13 @@ enum Input {
 }
 
 // Reads once, after the bytes that came before.
-fn read_on(file: &mut [u8], size: usize) -> Input
+fn read_on<R: Read>(source: &mut R, file: &mut [u8], size: usize) -> Input
     requires { size ≤ length file.old }
     ensures { Within size (length file.old) result }
 {
-    let got = libc::read(STDIN_FILENO, &mut file[size..]);
-    if got < 0 {
+    let Ok(came) = source.read(&mut file[size..]) else {
         return Input::Failed;
-    }
-    let came = io::count(got, &file[size..]);
+    };
     if came == 0 {
         return Input::All(size);
     }
@@ -40,12 +38,12 @@ fn read_on(file: &mut [u8], size: usize) -> Input
 }
 
 // Reads to the end of the input, or until the space is full.
-fn read_all(file: &mut [u8]) -> Input
+fn read_all<R: Read>(source: &mut R, file: &mut [u8]) -> Input
     ensures { Within 0 (length file.old) result }
 {
     let mut size = 0;
     while size < file.len() {
-        let read = read_on(file, size);
+        let read = read_on(source, file, size);
         let Input::More(now) = read else {
             return read;
         };
@@ -54,20 +52,18 @@ fn read_all(file: &mut [u8]) -> Input
     Input::All(size)
 }
 
-fn main() {
+fn main(rt: HostRuntime) {
+    let mut source = rt.reader();
     let mut file = [0u8; FILE_SPACE];
-    let Input::All(size) = read_all(&mut file) else {
-        io::write_all(STDERR_FILENO, b"report: standard input cannot be read\n");
+    let Input::All(size) = read_all(&mut source, &mut file) else {
+        let _ = eprintln!(rt; "report: standard input cannot be read");
         return;
     };
     let mut text = [0u8; TEXT_SPACE];
     let Wrote::Many(length) = reporting::report(&file[..size], &mut text) else {
         return;
     };
-    if !io::write_all(STDOUT_FILENO, &text[..length]) {
-        io::write_all(
-            STDERR_FILENO,
-            b"report: standard output cannot be written\n",
-        );
+    if rt.write_all(&text[..length]).is_err() {
+        let _ = eprintln!(rt; "report: standard output cannot be written");
     }
 }
