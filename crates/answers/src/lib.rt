@@ -45,35 +45,35 @@ pub const OVER_SUM: u32 = 18;
 // ---- the answers; a refusal is its number and its place
 
 // Done, with nothing to count: the order, forest and kept-weight calls, and the check of a list.
-#[derive(Drop)]
+#[derive(Clone, Copy)]
 pub enum Told {
     Done,
     Refused(u32, usize),
 }
 
 // A number of bytes or of rows written: the writer, the short list, the report.
-#[derive(Drop)]
+#[derive(Clone, Copy)]
 pub enum Wrote {
     Many(usize),
     Refused(u32, usize),
 }
 
 // What the reader found: a list with n nodes and so many rows.
-#[derive(Drop)]
+#[derive(Clone, Copy)]
 pub enum Found {
     Rows(u32, usize),
     Refused(u32, usize),
 }
 
 // A split: its value, the two words of its side, and the number of nodes in the side.
-#[derive(Drop)]
+#[derive(Clone, Copy)]
 pub enum Parted {
     Split(u32, u64, u64, u32),
     Refused(u32, usize),
 }
 
 // A list's summary: n, rows, links and pairs.
-#[derive(Drop)]
+#[derive(Clone, Copy)]
 pub enum Totals {
     Summary(u32, usize, u32, u32),
     Refused(u32, usize),

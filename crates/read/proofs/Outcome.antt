@@ -2,11 +2,9 @@
 -- that the records make are of one length, so 10 is a question of the count alone.
 use Prim.Native.Nat.{ℕ, ◌+◌, ◌≤◌}
 use mathlib.Core.Path.{◌≡◌, refl, ap, ◌∙◌}
-use mathlib.Core.Bool.{false, not}
 use mathlib.Core.List.{List, [], ◌∷◌}
 use native.Mathlib.Omega.{arith}
 use lib.ListN.{length, get_or, length-map}
-use lib.Dec.{eqb, ltb}
 use borrow.Author.Tests.{le-ltb, eq-eqb}
 use Rattle.meaning.specs.Numbers.{Check, fine, bad, refused, answered}
 use Rattle.meaning.specs.File.{Found, Run, ran, stopped, trailer_at, start_of, count_of, run_of, run_check, file_check, list_in}
@@ -37,15 +35,15 @@ run_check_lem s f ra rb rc =
 -- 1, 2 and 3 find nothing
 pub record Framed (s : List ℕ) : Type 0 where
   pub some : 8 ≤ length s
-  pub most : ltb 32768 (length s) ≡ false
+  pub most : length s ≤ 32768
   pub low : get_or s (trailer_at s + 6) 0 ≡ 0x4C
-  pub high : not (eqb (get_or s (trailer_at s + 7) 0) 0x54) ≡ false
+  pub high : get_or s (trailer_at s + 7) 0 ≡ 0x54
   pub within : start_of s ≤ trailer_at s
 
 module _ {s : List ℕ} (ok : Framed s) (ra rb rc : ℕ) where
   file_check_lem : file_check s ra rb rc ≡ run_check s (run_of s) ra rb rc
   unfolding file_check
-  file_check_lem = simp (le-ltb (length s) 8 ok.some, ok.most, eq-eqb _ _ ok.low, ok.high, le-ltb (trailer_at s) (start_of s) ok.within)
+  file_check_lem = simp (le-ltb (length s) 8 ok.some, le-ltb _ _ ok.most, eq-eqb _ _ ok.low, eq-eqb _ _ ok.high, le-ltb (trailer_at s) (start_of s) ok.within)
 
   pub answer_stopped : (num place : ℕ) → judged (run_of s) ≡ Code.Run.Stopped num place → refused num place ≡ read_answer s ra rb rc
   answer_stopped num place e = rw (file_check_lem, judged_stopped (run_of s) num place e)

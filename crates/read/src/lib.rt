@@ -28,7 +28,7 @@ enum Item {
 
 // What the records so far hold, as far as the answer needs it: whether a kind 1 came, its n, the number of rows, the sum of their
 // weights, and what the first bad row is told.
-#[derive(Drop)]
+#[derive(Clone, Copy)]
 struct Scan {
     seen: bool,
     n: u32,

@@ -1,0 +1,10 @@
+-- The first v nodes have their targets' names, the others their own. The measure is what is left of the nodes.
+use Rattle.std.proofs.Common.{◌-◌, ◌≤◌, get_or}
+use Rattle.laws.specs.Filling.{Upto}
+use Rattle.table.proofs.name_rest.Given as goal
+
+abbrev pub invariant-loop-v : goal.invariant-loop-v
+invariant-loop-v l = (l.v ≤ l.count) × Upto (λ u. get_or l.fn.name (get_or l.to u 0) 0) l.v l.fn.name l.name
+
+abbrev pub decreases-loop-v : goal.decreases-loop-v
+decreases-loop-v l = l.count - l.v
