@@ -11,7 +11,7 @@ use lib.Dec.{eqb, leb}
 use borrow.Author.Tests.{ne_eqb}
 use Rattle.meaning.specs.Numbers.{Check, fine, bad, when, ◌⟫◌, number, answered, zero_k, one_node, none_below}
 use Rattle.meaning.specs.Links.{Given, list_of, list_check}
-use Rattle.meaning.specs.Split.{Split, cut, word, size_of}
+use Rattle.meaning.specs.Split.{cut, word, size_of}
 use Rattle.meaning.specs.Calls.{least0, split_fields, least_answer, fewer_check, fewer_answer}
 use Rattle.laws.specs.Accept.{Words, fine_accepted}
 use Rattle.answers.specs.Paper.{parted_paper}

@@ -8,7 +8,7 @@ use lib.ListN.{length, get_or, take}
 use lib.Seq.{get_or-take, length-take-le}
 use Rattle.meaning.specs.Links.{LinkList, Accepted}
 use Rattle.meaning.specs.Order.{all, prefix, order_of, back_at}
-use Rattle.meaning.specs.Split.{Split, live, group, merged, noted, better, group_order, rounds, least_of}
+use Rattle.meaning.specs.Split.{Split, group, merged, noted, better, group_order, rounds, least_of}
 use Rattle.laws.specs.Bools.{eqb_same}
 use Rattle.laws.specs.Rows.{cut-links}
 use Rattle.laws.specs.Accept.{links_most}

@@ -1,6 +1,5 @@
 -- Words of a side: which nodes two words hold, and what the calls of this crate answer.
 use Rattle.std.specs.Prelude.{ℕ, zero, suc, ◌+◌, ◌/◌, ◌%◌, min, ◌≡◌, Bool, cond, List, [], ◌∷◌, ◌++◌, length, get_or, eqb, ltb}
-use Rattle.meaning.specs.Sums.{on}
 use Rattle.meaning.specs.Numbers.{Check, when, short_room, Answer, answered, after}
 use Rattle.meaning.specs.Split.{word, size_of}
 use Rattle.laws.specs.Words.{bits_of}
