@@ -3,7 +3,6 @@
 // through it. No function stands here.
 #![tactic(auto)]
 
-
 // ---- the numbers of document 01's table
 
 pub const FILE_SIZE: u32 = 1;

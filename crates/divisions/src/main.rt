@@ -336,5 +336,9 @@ fn main(rt: HostRuntime) -> io::Result<()> {
     print(&rt, "random lists of 2 to 8 nodes: ", LISTS)?;
     print(&rt, "asked for k from 1 to 8, a split given: ", t.yes)?;
     print(&rt, "asked for k from 1 to 8, none: ", t.nothing)?;
-    print(&rt, "answers that trying every division contradicts: ", t.wrong)
+    print(
+        &rt,
+        "answers that trying every division contradicts: ",
+        t.wrong,
+    )
 }

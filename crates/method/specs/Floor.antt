@@ -5,9 +5,9 @@
 -- below `best` parts no node with `best` or more cables back from the node before it, and holds each run of the order whole or not at all: it is a
 -- division, with the same value, of the list in which each run is one node. Where none of that list's divisions is below a number up to
 -- `best`, none of the given list's is. Assumes nothing.
-use Rattle.std.specs.Prelude.{ℕ, zero, suc, ◌≤◌, ◌<◌, ◌≡◌, refl, Bool, true, List, length, get_or, eqb, ltb}
+use Rattle.std.specs.Prelude.{ℕ, zero, suc, ◌≤◌, ◌<◌, ◌≡◌, refl, Bool, List, length, get_or, eqb, ltb}
 use Rattle.std.proofs.Common.{sym, ap, ◌∙◌, ⊎_elim, arith, eqb-true, ltb-false}
-use Rattle.meaning.specs.Sums.{on, differ, has}
+use Rattle.meaning.specs.Sums.{differ}
 use Rattle.meaning.specs.Links.{LinkList, Accepted}
 use Rattle.meaning.specs.Order.{all, back_at, choose, order_of}
 use Rattle.meaning.specs.Split.{cut, size_of}

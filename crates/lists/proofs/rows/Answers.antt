@@ -1,8 +1,8 @@
 -- `rows` meets its contract: the lemmas of `Checks` say what the rest of the checks is where a row is bad, and where none is.
-use Rattle.std.proofs.Common.{sym, ◌∙◌, refl, arith, add-one}
+use Rattle.std.proofs.Common.{refl, arith, add-one}
 use Rattle.meaning.specs.Sums.{sum}
-use Rattle.meaning.specs.Links.{LinkList, given, list_of, rows_check}
-use Rattle.lists.proofs.Checks.{rows_more, rest_stop, rest_end}
+use Rattle.meaning.specs.Links.{given, list_of, rows_check}
+use Rattle.lists.proofs.Checks.{rows_more, rest_stop}
 use Rattle.lists.proofs.rows.Goals as goal
 
 pub loop-r-init : goal.loop-r-init
