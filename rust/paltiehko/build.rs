@@ -1,13 +1,13 @@
-//! Links the static library that `rt staticlib paltiehko` makes.
+//! Links the static library that `rt lib paltiehko` makes.
 
 use std::path::Path;
 
 fn main() {
-    let folder = Path::new(env!("CARGO_MANIFEST_DIR")).join("../../target/staticlib");
+    let folder = Path::new(env!("CARGO_MANIFEST_DIR")).join("../../crates/paltiehko/out");
     let library = folder.join("libpaltiehko.a");
     println!("cargo:rerun-if-changed={}", library.display());
     if !library.exists() {
-        eprintln!("{} is missing: run `rt staticlib paltiehko` in the repository's root first", library.display());
+        eprintln!("{} is missing: run `rt lib paltiehko` in the repository's root first", library.display());
         std::process::exit(1);
     }
     println!("cargo:rustc-link-search=native={}", folder.display());

@@ -18,19 +18,16 @@ fn list_cost(n: u32, rows: usize) -> u64 {
     1_000 + u64::from(n.min(16)).pow(4) * (rows as u64 + 1)
 }
 
-const HEADER: &str = "use Prim.Native.Nat.{ℕ, zero, suc}
-use mathlib.Core.Path.{_≡_, refl}
-use mathlib.Core.List.{List, [], _∷_, _++_, map}
-use lib.ListN.{length}
-use Rattle·meaning.specs.Sums.{sum, has, listed, those}
-use Rattle·meaning.specs.Numbers.{Check, fine, bad, Answer, done, refused, answered, after}
-use Rattle·meaning.specs.Links.{Given, given, LinkList, listOf, rowsCheck, listCheck, pairs}
-use Rattle·meaning.specs.Order.{back, choose, prefix, backsOf}
-use Rattle·meaning.specs.Forest.{position, first, firstsOf, visits, scan, keptsOf, stays}
-use Rattle·meaning.specs.Split.{cut, rounds, word}
-use Rattle·meaning.specs.File.{itemAt, runFrom, runOf, fileCheck, listIn, rowsBytes, fileOf}
-use Rattle·meaning.specs.Report.{digits, spaced, listReport, reportOf}
-use Rattle·meaning.specs.Calls.{order0, orderCheck, forestCheck, keptCheck, shortCheck, shortGiven, leastAnswer, fewerAnswer, summaryAnswer, readAnswer, writeAnswer, writeLeaves, reportAnswer, reportCheck}
+const HEADER: &str = "use Rattle.std.specs.Prelude.{ℕ, zero, suc, ◌≡◌, refl, List, [], ◌∷◌, ◌++◌, map, length}
+use Rattle.meaning.specs.Sums.{sum, has, listed, those}
+use Rattle.meaning.specs.Numbers.{Check, fine, bad, Answer, done, refused, answered, after}
+use Rattle.meaning.specs.Links.{Given, given, LinkList, list_of, rows_check, list_check, pairs}
+use Rattle.meaning.specs.Order.{back, choose, prefix, backs_of}
+use Rattle.meaning.specs.Forest.{position, first, firsts_of, visits, scan, kepts_of, stays}
+use Rattle.meaning.specs.Split.{cut, rounds, word}
+use Rattle.meaning.specs.File.{item_at, run_from, run_of, file_check, list_in, rows_bytes, file_of}
+use Rattle.meaning.specs.Report.{digits, spaced, list_report, report_of}
+use Rattle.meaning.specs.Calls.{order0, order_check, forest_check, kept_check, short_check, short_given, least_answer, fewer_answer, summary_answer, read_answer, write_answer, write_leaves, report_answer, report_check}
 
 ";
 
@@ -47,55 +44,55 @@ shown (refused num at) = part (num ∷ at ∷ [])
 -- each call on a list, with what the lent lists held
 abbrev ordering : Given → List ℕ → List ℕ → List ℕ
 ordering g o b =
-    let c = orderCheck g (length o) (length b) in
+    let c = order_check g (length o) (length b) in
     let v = order0 g in
-    shown (answered c []) ++ (part (after c v o) ++ part (after c (backsOf (listOf g) v) b))
+    shown (answered c []) ++ (part (after c v o) ++ part (after c (backs_of (list_of g) v) b))
 
 abbrev thinning : Given → ℕ → List ℕ → List ℕ
 thinning g k old =
     let v = order0 g in
-    let c = forestCheck g (length old) in
-    let d = keptCheck g k (length old) in
-    shown (answered c []) ++ (part (after c (firstsOf (listOf g) v) old) ++ (shown (answered d []) ++ part (after d (keptsOf (listOf g) v k) old)))
+    let c = forest_check g (length old) in
+    let d = kept_check g k (length old) in
+    shown (answered c []) ++ (part (after c (firsts_of (list_of g) v) old) ++ (shown (answered d []) ++ part (after d (kepts_of (list_of g) v k) old)))
 
 abbrev scanning : Given → List ℕ → List ℕ
 scanning g old =
-    let c = forestCheck g (length old) in
-    part (after c (listed (length (g .la)) (scan (listOf g) (order0 g) (g .n) .given-first)) old)
+    let c = forest_check g (length old) in
+    part (after c (listed (length g.la) (scan (list_of g) (order0 g) g.n).given_first) old)
 
 abbrev shortening : Given → ℕ → List ℕ → List ℕ → List ℕ → List ℕ
 shortening g k la lb lw =
-    let c = shortCheck g k (length la) (length lb) (length lw) in
-    let s = shortGiven g k in
-    shown (answered c (length (s .la) ∷ [])) ++ (part (after c (s .la) la) ++ (part (after c (s .lb) lb) ++ part (after c (s .lw) lw)))
+    let c = short_check g k (length la) (length lb) (length lw) in
+    let s = short_given g k in
+    shown (answered c (length s.la ∷ [])) ++ (part (after c s.la la) ++ (part (after c s.lb lb) ++ part (after c s.lw lw)))
 
 abbrev splitting : Given → ℕ → List ℕ
-splitting g k = shown (leastAnswer g) ++ shown (fewerAnswer g k)
+splitting g k = shown (least_answer g) ++ shown (fewer_answer g k)
 
 abbrev writing : Given → List ℕ → List ℕ
-writing g old = shown (summaryAnswer g) ++ (shown (writeAnswer g (length old)) ++ part (writeLeaves g old))
+writing g old = shown (summary_answer g) ++ (shown (write_answer g (length old)) ++ part (write_leaves g old))
 
 -- each call on a file
 abbrev reading : List ℕ → List ℕ → List ℕ → List ℕ → List ℕ
 reading s la lb lw =
-    let c = fileCheck s (length la) (length lb) (length lw) in
-    let g = listIn s in
-    shown (readAnswer s (length la) (length lb) (length lw)) ++ (part (after c (g .la) la) ++ (part (after c (g .lb) lb) ++ part (after c (g .lw) lw)))
+    let c = file_check s (length la) (length lb) (length lw) in
+    let g = list_in s in
+    shown (read_answer s (length la) (length lb) (length lw)) ++ (part (after c g.la la) ++ (part (after c g.lb lb) ++ part (after c g.lw lw)))
 
 abbrev reporting : List ℕ → List ℕ → List ℕ
-reporting s old = shown (reportAnswer s (length old)) ++ part (after (reportCheck s (length old)) (reportOf s) old)
+reporting s old = shown (report_answer s (length old)) ++ part (after (report_check s (length old)) (report_of s) old)
 
 -- a case: what the definitions give, and what the judge says
 record Case : Type 0 where
   pub gives : List ℕ
   pub says : List ℕ
 
-infix 10 _is_
-abbrev _is_ : List ℕ → List ℕ → Case
+infix 10 ◌is◌
+abbrev ◌is◌ : List ℕ → List ℕ → Case
 x is y = record { gives = x; says = y }
 ";
 
-const UNFOLDING: &str = "sum has listed those rowsCheck listCheck pairs back choose prefix position first visits scan stays cut rounds word itemAt runFrom runOf fileCheck rowsBytes fileOf digits spaced listReport reportOf";
+const UNFOLDING: &str = "sum has listed those rows_check list_check pairs back choose prefix position first visits scan stays cut rounds word item_at run_from run_of file_check rows_bytes file_of digits spaced list_report report_of";
 
 fn row<T: Copy + Into<u64>>(values: &[T]) -> String {
     let mut text = String::from("(");
@@ -232,8 +229,8 @@ fn claim(text: &mut String, name: &str, cases: &[Case]) {
         let before = if number == 0 { "" } else { "∷ " };
         writeln!(text, "    {before}({} is {})", case.gives, row(&case.says)).unwrap();
     }
-    writeln!(text, "    ∷ []\n\npub {name}-hold : map (λ c. c .gives) {name} ≡ map (λ c. c .says) {name}").unwrap();
-    writeln!(text, "unfolding {UNFOLDING}\n{name}-hold = refl").unwrap();
+    writeln!(text, "    ∷ []\n\npub {name}_hold : map (λ c. c.gives) {name} ≡ map (λ c. c.says) {name}").unwrap();
+    writeln!(text, "unfolding {UNFOLDING}\n{name}_hold = refl").unwrap();
 }
 
 fn main() {
@@ -275,7 +272,7 @@ fn main() {
         let home = folder.join(format!("cases{part}"));
         fs::create_dir_all(home.join("src")).unwrap();
         fs::create_dir_all(home.join("specs")).unwrap();
-        fs::write(home.join("src/lib.rt"), "// Claims about the definitions, made by rust/judge.\n").unwrap();
+        fs::write(home.join("src/lib.rt"), "// Claims about the definitions, made by rust/judge.\n#![tactic(auto)]\n").unwrap();
         fs::write(home.join("specs/Lib.antt"), "pub mod Cases\n").unwrap();
         fs::write(home.join("specs/Cases.antt"), text).unwrap();
     }
