@@ -1,4 +1,4 @@
-//! Links the static library that `rt lib paltiehko` makes.
+//! Links the static library that `rt lib` makes in crates/paltiehko.
 
 use std::path::Path;
 
@@ -7,7 +7,7 @@ fn main() {
     let library = folder.join("libpaltiehko.a");
     println!("cargo:rerun-if-changed={}", library.display());
     if !library.exists() {
-        eprintln!("{} is missing: run `rt lib paltiehko` in the repository's root first", library.display());
+        eprintln!("{} is missing: run `rt lib` in crates/paltiehko first", library.display());
         std::process::exit(1);
     }
     println!("cargo:rustc-link-search=native={}", folder.display());

@@ -135,7 +135,7 @@ fn fold(m: &mut [u32], keep: usize, gone: usize)
 // ---- a round
 
 // The last group of a round's order, the one before it, and the value of the last.
-#[derive(Drop)]
+#[derive(Clone, Copy)]
 struct Last {
     last: u16,
     before: u16,
@@ -143,7 +143,7 @@ struct Last {
 }
 
 // A noted division: its value, its side's words and its size.
-#[derive(Drop)]
+#[derive(Clone, Copy)]
 struct Noted {
     value: u32,
     low: u64,

@@ -18,7 +18,7 @@ ghost use Rattle.read.specs.Fill.{LaysRow, laid_at};
 use answers::{Found, Told};
 
 // What a record is, with the offset after it.
-#[derive(Drop)]
+#[derive(Clone, Copy)]
 enum Item {
     Broken(u32, usize),
     Nodes(u16, usize),
@@ -38,14 +38,14 @@ struct Scan {
 }
 
 // A record was taken in and the run goes on after it, or the record is wrong.
-#[derive(Drop)]
+#[derive(Clone, Copy)]
 enum Step {
     On(usize, Scan),
     Wrong(u32, usize),
 }
 
 // A run ends with what it holds, or at the first record that is wrong.
-#[derive(Drop)]
+#[derive(Clone, Copy)]
 enum Run {
     Ran(Scan),
     Stopped(u32, usize),

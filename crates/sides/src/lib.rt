@@ -10,7 +10,7 @@ ghost use Rattle.sides.specs.Bits.{bits, rising, members_answer, members_leaves,
 use answers::Wrote;
 
 // The two words of a set of nodes, and the number of nodes in it.
-#[derive(Drop)]
+#[derive(Clone, Copy)]
 pub struct Words {
     pub low: u64,
     pub high: u64,

@@ -426,7 +426,7 @@ fn gather(count: usize, to: &[u16], name: &mut [u16]) -> usize
 // ---- the list that shrinks
 
 // What is left of a list that shrinks: its nodes and rows, and the least value of a division that was seen.
-#[derive(Drop)]
+#[derive(Clone, Copy)]
 struct Left {
     nodes: usize,
     rows: usize,
