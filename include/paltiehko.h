@@ -1,5 +1,5 @@
 /* Paltiehko: link lists, forest numbers and the least cable cut. Every function below is proved to answer as document 01 says, for every
-   input; docs/NUMBERS.md has a page for each number. Link with target/staticlib/libpaltiehko.a, which `rt staticlib paltiehko` makes.
+   input; docs/NUMBERS.md has a page for each number. Link with crates/paltiehko/out/libpaltiehko.a, which `rt lib` makes in crates/paltiehko.
 
    Lists. Every list is a pointer and a length in places. A pointer is never null, also where the length is 0. A list of links is n nodes,
    numbered from 0, and three lists of one length: row r joins a[r] with b[r] by w[r] parallel cables. The lists that a call fills are

@@ -1,6 +1,8 @@
 -- `name_runs` meets its contract: as many runs have begun as nodes passed, at most, and one at least, so the number of a node's run fits.
 use Rattle.std.proofs.Common.{arith}
-use Rattle.table.proofs.Naming.{named_none, named_more, most}
+use Rattle.laws.specs.Choose.{size_most}
+use Rattle.method.specs.Floor.{begins}
+use Rattle.table.proofs.Naming.{named_none, named_more}
 use Rattle.table.proofs.name_runs.Goals as goal
 
 pub loop-p-init : goal.loop-p-init
@@ -8,11 +10,11 @@ loop-p-init c = (omega arith, named_none _ _ _ _)
 
 pub overflow_add-c : goal.overflow_add-c
 overflow_add-c c =
-    omega (arith, most c.loop-p.invariant.1 c.count_if-c.result c.count_if-c.ensures.0 c.requires.count_nonzero.1)
+    omega (arith, c.loop-p.invariant.1.begun, size_most c.loop-p.p (begins c.args.back.now c.args.best), c.count_if-c.ensures.1)
 
 pub overflow_cast-name : goal.overflow_cast-name
 overflow_cast-name c =
-    omega (arith, most c.loop-p.invariant.1 c.count_if-c.result c.count_if-c.ensures.0 c.requires.count_nonzero.1)
+    omega (arith, c.loop-p.invariant.1.begun, size_most c.loop-p.p (begins c.args.back.now c.args.best), c.count_if-c.ensures.1)
 
 pub loop-p-preserved : goal.loop-p-preserved
 loop-p-preserved c =
