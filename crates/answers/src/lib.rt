@@ -1,79 +1,113 @@
-// What the calls of this library answer: one enum for each kind of answer, and document 01's numbers as constants, each made here
-// and nowhere else. `specs/Paper.antt` gives the paper's number, place and fields for every case of every enum; all promises go
-// through it. No function stands here.
+// What the calls of this library answer: `Ok` with what was asked, or `Err` with a refusal, which has a case for each number of
+// document 01's table. `specs/Paper.antt` gives the paper's number, place and fields of every answer; all promises go through it.
 #![tactic(auto)]
 
-// ---- the numbers of document 01's table
+ghost use Rattle.std.specs.Prelude.{◌≡◌};
+ghost use Rattle.answers.specs.Paper.{number_of, place_of};
 
-pub const FILE_SIZE: u32 = 1;
+use std::fmt;
 
-pub const WRONG_MARK: u32 = 2;
-
-pub const START_PAST: u32 = 3;
-
-pub const RECORD_LENGTH: u32 = 4;
-
-pub const RECORD_PASSES: u32 = 5;
-
-pub const RECORD_KIND: u32 = 6;
-
-pub const NODES_RECORD: u32 = 7;
-
-pub const ROW_COUNT: u32 = 8;
-
-pub const NODE_COUNT: u32 = 9;
-
-pub const LIST_SIZE: u32 = 10;
-
-pub const END_OUTSIDE: u32 = 11;
-
-pub const ENDS_EQUAL: u32 = 12;
-
-pub const NO_WEIGHT: u32 = 13;
-
-pub const SHORT_ROOM: u32 = 14;
-
-pub const ZERO_K: u32 = 15;
-
-pub const ONE_NODE: u32 = 16;
-
-pub const NONE_BELOW: u32 = 17;
-
-pub const OVER_SUM: u32 = 18;
-
-// ---- the answers; a refusal is its number and its place
-
-// Done, with nothing to count: the order, forest and kept-weight calls, and the check of a list.
-#[derive(Clone, Copy)]
-pub enum Told {
-    Done,
-    Refused(u32, usize),
+// The table of document 01, in its order; where a number has a place, the case has it: an offset in a file, or a row.
+#[derive(Clone, Copy, PartialEq, Eq)]
+pub enum Refusal {
+    FileSize,
+    WrongMark,
+    StartPast,
+    RecordLength(usize),
+    RecordPasses(usize),
+    RecordKind(usize),
+    NodesRecord(usize),
+    RowCount,
+    NodeCount,
+    ListSize,
+    EndOutside(usize),
+    EndsEqual(usize),
+    NoWeight(usize),
+    ShortRoom,
+    ZeroK,
+    OneNode,
+    NoneBelow,
+    OverSum,
 }
 
-// A number of bytes or of rows written: the writer, the short list, the report.
-#[derive(Clone, Copy)]
-pub enum Wrote {
-    Many(usize),
-    Refused(u32, usize),
+impl Refusal {
+    // Its number in the table.
+    pub fn number(self) -> u32
+        ensures { result ≡ number_of self }
+    {
+        match self {
+            Refusal::FileSize => 1,
+            Refusal::WrongMark => 2,
+            Refusal::StartPast => 3,
+            Refusal::RecordLength(_) => 4,
+            Refusal::RecordPasses(_) => 5,
+            Refusal::RecordKind(_) => 6,
+            Refusal::NodesRecord(_) => 7,
+            Refusal::RowCount => 8,
+            Refusal::NodeCount => 9,
+            Refusal::ListSize => 10,
+            Refusal::EndOutside(_) => 11,
+            Refusal::EndsEqual(_) => 12,
+            Refusal::NoWeight(_) => 13,
+            Refusal::ShortRoom => 14,
+            Refusal::ZeroK => 15,
+            Refusal::OneNode => 16,
+            Refusal::NoneBelow => 17,
+            Refusal::OverSum => 18,
+        }
+    }
+
+    // Its place: 0 where the table names none.
+    pub fn place(self) -> usize
+        ensures { result ≡ place_of self }
+    {
+        match self {
+            Refusal::RecordLength(at)
+            | Refusal::RecordPasses(at)
+            | Refusal::RecordKind(at)
+            | Refusal::NodesRecord(at) => at,
+            Refusal::EndOutside(row) | Refusal::EndsEqual(row) | Refusal::NoWeight(row) => row,
+            _ => 0,
+        }
+    }
 }
+
+// The number and the place, as the report says them after `refused`.
+impl fmt::Display for Refusal {
+    fn fmt<W: fmt::Write>(&self, f: &mut fmt::Formatter<W>) -> fmt::Result {
+        write!(f, "{} at {}", self.number(), self.place())
+    }
+}
+
+// ---- what a call answers where it does not refuse
 
 // What the reader found: a list with n nodes and so many rows.
-#[derive(Clone, Copy)]
-pub enum Found {
-    Rows(u32, usize),
-    Refused(u32, usize),
+#[derive(Clone, Copy, PartialEq, Eq)]
+pub struct Found {
+    pub n: u32,
+    pub rows: usize,
 }
 
-// A split: its value, the two words of its side, and the number of nodes in the side.
-#[derive(Clone, Copy)]
-pub enum Parted {
-    Split(u32, u64, u64, u32),
-    Refused(u32, usize),
+// A set of nodes as two words, and the number of nodes in it.
+#[derive(Clone, Copy, PartialEq, Eq)]
+pub struct Side {
+    pub low: u64,
+    pub high: u64,
+    pub size: u32,
+}
+
+// A split: its value and its side.
+#[derive(Clone, Copy, PartialEq, Eq)]
+pub struct Split {
+    pub value: u32,
+    pub side: Side,
 }
 
 // A list's summary: n, rows, links and pairs.
-#[derive(Clone, Copy)]
-pub enum Totals {
-    Summary(u32, usize, u32, u32),
-    Refused(u32, usize),
+#[derive(Clone, Copy, PartialEq, Eq)]
+pub struct Totals {
+    pub n: u32,
+    pub rows: usize,
+    pub links: u32,
+    pub pairs: u32,
 }

@@ -3,123 +3,97 @@
 // across every division. Proved safe and ending; what it prints is held to the file `stdout`.
 #![tactic(auto)]
 
-ghost use Rattle.std.specs.Prelude.{◌≡◌, ◌≤◌, ◌<◌};
+ghost use Rattle.std.specs.Prelude.{◌≤◌};
 
-use answers::{Parted, Wrote};
+use answers::{Refusal, Split};
+use lists::{Columns, Links};
 use std::io;
 
 // How many lists are drawn.
 const LISTS: u32 = 2000;
 
-// A list of up to 12 rows on 2 to 8 nodes, and the state of the random numbers after it was drawn.
-#[derive(Clone, Copy)]
+// The most rows of a list that is drawn.
+const ROWS: usize = 12;
+
+// ---- random lists
+
+// Random numbers: each is made of the one before.
+#[derive(Drop)]
+struct Random(u32);
+
+impl Random {
+    fn draw(&mut self) -> u32 {
+        self.0 = self.0.wrapping_mul(1103515245).wrapping_add(12345);
+        self.0
+    }
+}
+
+// A list of up to 12 rows on 2 to 8 nodes.
+#[derive(Drop)]
 struct Site {
-    pub n: u32,
-    pub rows: usize,
-    pub a: [u16; 12],
-    pub b: [u16; 12],
-    pub w: [u16; 12],
-    pub seed: u32,
+    n: u32,
+    rows: usize,
+    a: [u16; ROWS],
+    b: [u16; ROWS],
+    w: [u16; ROWS],
+    ghost within: { rows ≤ 12 },
 }
 
-// The next state of the random numbers.
-fn stirred(seed: u32) -> u32 {
-    ((wide(seed) * 1103515245 + 12345) % 4294967296) as u32
+impl Site {
+    // A site drawn by random numbers: sixteen tries at a row.
+    fn drawn(random: &mut Random) -> Site {
+        let mut site = Site {
+            n: random.draw() / 65536 % 7 + 2,
+            rows: 0,
+            a: [0; ROWS],
+            b: [0; ROWS],
+            w: [0; ROWS],
+        };
+        for _ in 0..16 {
+            site.add_row(random.draw());
+        }
+        site
+    }
+
+    // One more row, drawn by a random number, where the row is good and has a place.
+    fn add_row(&mut self, number: u32) {
+        let at = self.rows;
+        let x = number / 65536 % 8;
+        let y = number / 524288 % 8;
+        if at == ROWS || x == y || self.n <= x || self.n <= y {
+            return;
+        }
+        self.a[at] = x as u16;
+        self.b[at] = y as u16;
+        self.w[at] = (number / 4194304 % 3 + 1) as u16;
+        self.rows = at + 1;
+    }
+
+    fn links(&self) -> Links<'_> {
+        Links {
+            n: self.n,
+            a: &self.a[..self.rows],
+            b: &self.b[..self.rows],
+            w: &self.w[..self.rows],
+        }
+    }
 }
 
-fn wide(x: u32) -> u64
-    ensures { result ≡ x }
-{
-    x as u64
-}
-
-// The site with one more row, drawn by its state, where the row is good and has a place.
-fn with_row(s: Site) -> Site
-    requires { s.rows ≤ 12 }
-    ensures { result.rows ≤ 12 }
-{
-    let mut t = s;
-    let seed = stirred(s.seed);
-    t.seed = seed;
-    let at = s.rows;
-    let x = seed / 65536 % 8;
-    let y = seed / 524288 % 8;
-    if at == 12 {
-        return t;
-    }
-    if x == y {
-        return t;
-    }
-    if s.n <= x {
-        return t;
-    }
-    if s.n <= y {
-        return t;
-    }
-    t.a[at] = x as u16;
-    t.b[at] = y as u16;
-    t.w[at] = (seed / 4194304 % 3 + 1) as u16;
-    t.rows = at + 1;
-    t
-}
-
-// A site drawn by a state: sixteen tries at a row.
-fn drawn(seed: u32) -> Site
-    ensures { result.rows ≤ 12 }
-{
-    let first = stirred(seed);
-    let mut s = Site {
-        n: first / 65536 % 7 + 2,
-        rows: 0,
-        a: [0; 12],
-        b: [0; 12],
-        w: [0; 12],
-        seed: first,
-    };
-    let mut tries: u32 = 0;
-    while tries < 16 {
-        s = with_row(s);
-        tries += 1;
-    }
-    s
-}
+// ---- every division
 
 // Whether node v is in the set of bits; only nodes below 32 can be.
 fn inside(set: u32, v: u16) -> bool {
-    if v < 32 { set >> v & 1 == 1 } else { false }
+    v < 32 && set >> v & 1 == 1
 }
 
-// The cables of row i across the division.
-fn across(set: u32, a: u16, b: u16, w: u16) -> u64
-    ensures { result ≤ 65535 }
-{
-    if inside(set, a) == inside(set, b) {
-        0
-    } else {
-        w as u64
-    }
-}
-
-// The value of a division: the weights of the rows with one end inside. At most 4,096 rows are looked at.
-fn value_of(set: u32, a: &[u16], b: &[u16], w: &[u16]) -> u64
-    ensures { result ≤ 268431360 }
-{
-    let mut sum: u64 = 0;
-    let mut i = 0;
-    while i < 4096 {
-        if a.len() <= i {
-            return sum;
-        }
-        if b.len() <= i {
-            return sum;
-        }
-        if w.len() <= i {
-            return sum;
-        }
-        sum += across(set, a[i], b[i], w[i]);
-        i += 1;
-    }
-    sum
+// The value of a division: the weights of the rows with one end inside. On up to 12 rows no sum saturates.
+fn value_of(set: u32, links: &Links<'_>) -> u64 {
+    let Links { a, b, w, .. } = *links;
+    a.iter()
+        .zip(b)
+        .zip(w)
+        .filter(|((a, b), _)| inside(set, **a) != inside(set, **b))
+        .fold(0, |sum: u64, (_, w)| sum.saturating_add(u64::from(*w)))
 }
 
 // The number of subsets of the nodes 1 to n - 1, for 2 to 8 nodes; else 1, the empty one.
@@ -127,53 +101,36 @@ fn subsets(n: u32) -> u32
     ensures { result ≤ 128 }
 {
     match n {
-        2 => 2,
-        3 => 4,
-        4 => 8,
-        5 => 16,
-        6 => 32,
-        7 => 64,
-        8 => 128,
+        2..=8 => 1 << (n - 1),
         _ => 1,
     }
 }
 
-fn lesser(x: u64, y: u64) -> u64 {
-    if y < x { y } else { x }
-}
-
 // The least value over every division of 2 to 8 nodes. Node 0 stays outside, so that each is tried once.
-fn least_by_trial(n: u32, a: &[u16], b: &[u16], w: &[u16]) -> u64 {
-    let end = subsets(n);
-    let mut best: u64 = 18446744073709551615;
-    let mut half: u32 = 1;
-    while half < end {
-        best = lesser(best, value_of(half * 2, a, b, w));
-        half += 1;
-    }
-    best
+fn least_by_trial(links: &Links<'_>) -> u64 {
+    (1..subsets(links.n))
+        .map(|half| value_of(half * 2, links))
+        .min()
+        .unwrap_or(u64::MAX)
 }
 
 // ---- the comparisons
 
 // The least split has the least value of all divisions, and its side has that value.
-fn least_agrees(n: u32, a: &[u16], b: &[u16], w: &[u16]) -> bool {
-    let best = least_by_trial(n, a, b, w);
-    let Parted::Split(value, low, high, size) = least::least(n, a, b, w) else {
+fn least_agrees(links: &Links<'_>) -> bool {
+    let best = least_by_trial(links);
+    let Ok(Split { value, side }) = least::least(links) else {
         return false;
     };
-    if high != 0 {
-        return false;
-    }
-    if size != u64::count_ones(low) {
-        return false;
-    }
-    let across = value_of((low % 4294967296) as u32, a, b, w);
-    wide(value) == best && across == best
+    let across = value_of((side.low & 0xffff_ffff) as u32, links);
+    side.high == 0
+        && side.size == side.low.count_ones()
+        && u64::from(value) == best
+        && across == best
 }
 
 // What asking for a split below k told: a split as it should be, none as it should be, or neither.
-#[derive(Clone, Copy)]
+#[derive(Clone, Copy, PartialEq, Eq)]
 enum Heard {
     Yes,
     Nothing,
@@ -181,164 +138,104 @@ enum Heard {
 }
 
 // A split is given exactly where some division is below k.
-fn asked(n: u32, a: &[u16], b: &[u16], w: &[u16], k: u32) -> Heard {
-    let best = least_by_trial(n, a, b, w);
-    let below = best < wide(k);
-    match least::fewer(n, a, b, w, k) {
-        Parted::Split(value, _, _, _) => {
-            if below && wide(value) == best {
-                Heard::Yes
-            } else {
-                Heard::Wrong
-            }
-        }
-        Parted::Refused(number, _) => {
-            if !below && number == answers::NONE_BELOW {
-                Heard::Nothing
-            } else {
-                Heard::Wrong
-            }
-        }
+fn asked(links: &Links<'_>, k: u32) -> Heard {
+    let best = least_by_trial(links);
+    let below = best < u64::from(k);
+    match least::fewer(links, k) {
+        Ok(split) if below && u64::from(split.value) == best => Heard::Yes,
+        Err(Refusal::NoneBelow) if !below => Heard::Nothing,
+        _ => Heard::Wrong,
     }
 }
 
 // One division has across it no more than before, and at least the smaller of k and that.
 fn kept_across(k: u32, before: u64, after: u64) -> bool {
-    after <= before && lesser(wide(k), before) <= after
+    after <= before && before.min(u64::from(k)) <= after
 }
 
 // So has every division. Rows of weight 0 count for nothing, so the short list may be followed by zeros.
-fn all_kept(
-    n: u32,
-    k: u32,
-    a: &[u16],
-    b: &[u16],
-    w: &[u16],
-    a2: &[u16],
-    b2: &[u16],
-    w2: &[u16],
-) -> bool {
-    let end = subsets(n);
-    let mut half: u32 = 1;
-    while half < end {
-        let before = value_of(half * 2, a, b, w);
-        let after = value_of(half * 2, a2, b2, w2);
-        if !kept_across(k, before, after) {
-            return false;
-        }
-        half += 1;
-    }
-    true
+fn all_kept(k: u32, links: &Links<'_>, short: &Links<'_>) -> bool {
+    (1..subsets(links.n)).map(|half| half * 2).all(|set| kept_across(
+        k,
+        value_of(set, links),
+        value_of(set, short),
+    ))
 }
 
-fn thinning_agrees(n: u32, a: &[u16], b: &[u16], w: &[u16], k: u32) -> bool {
-    let mut a2 = [0u16; 12];
-    let mut b2 = [0u16; 12];
-    let mut w2 = [0u16; 12];
-    let Wrote::Many(_) = thin::short(n, a, b, w, k, &mut a2, &mut b2, &mut w2) else {
-        return false;
+fn thinning_agrees(links: &Links<'_>, k: u32) -> bool {
+    let mut a = [0u16; ROWS];
+    let mut b = [0u16; ROWS];
+    let mut w = [0u16; ROWS];
+    let mut out = Columns {
+        a: &mut a,
+        b: &mut b,
+        w: &mut w,
     };
-    all_kept(n, k, a, b, w, &a2, &b2, &w2)
+    if thin::short(links, k, &mut out).is_err() {
+        return false;
+    }
+    let short = Links {
+        n: links.n,
+        a: &a,
+        b: &b,
+        w: &w,
+    };
+    all_kept(k, links, &short)
 }
 
 // ---- the run
 
 // What was counted so far.
-#[derive(Clone, Copy)]
+#[derive(Default, Drop)]
 struct Tally {
     yes: u32,
     nothing: u32,
     wrong: u32,
 }
 
-fn more(x: u32) -> u32 {
-    if x < 4294967295 { x + 1 } else { x }
-}
-
-fn counted(t: Tally, ok: bool) -> Tally {
-    if ok {
-        return t;
+impl Tally {
+    fn hear(&mut self, heard: Heard) {
+        let count = match heard {
+            Heard::Yes => &mut self.yes,
+            Heard::Nothing => &mut self.nothing,
+            Heard::Wrong => &mut self.wrong,
+        };
+        *count = count.saturating_add(1);
     }
-    Tally {
-        yes: t.yes,
-        nothing: t.nothing,
-        wrong: more(t.wrong),
-    }
-}
 
-fn with_answer(t: Tally, x: Heard) -> Tally {
-    let mut u = t;
-    match x {
-        Heard::Yes => {
-            u.yes = more(t.yes);
-        }
-        Heard::Nothing => {
-            u.nothing = more(t.nothing);
-        }
-        Heard::Wrong => {
-            u.wrong = more(t.wrong);
+    fn check(&mut self, agrees: bool) {
+        if !agrees {
+            self.hear(Heard::Wrong);
         }
     }
-    u
+
+    // A list with every k from 1 to 8.
+    fn try_list(&mut self, links: &Links<'_>) {
+        self.check(least_agrees(links));
+        for k in 1..=8 {
+            self.hear(asked(links, k));
+            self.check(thinning_agrees(links, k));
+        }
+    }
 }
 
-// A list with every k from 1 to 8.
-fn tried(t: Tally, n: u32, a: &[u16], b: &[u16], w: &[u16]) -> Tally {
-    let mut u = counted(t, least_agrees(n, a, b, w));
-    let mut k: u32 = 1;
-    while k < 9 {
-        u = with_answer(u, asked(n, a, b, w, k));
-        u = counted(u, thinning_agrees(n, a, b, w, k));
-        k += 1;
+// Every list that is drawn.
+fn tried() -> Tally {
+    let mut tally = Tally::default();
+    let mut random = Random(1);
+    for _ in 0..LISTS {
+        tally.try_list(&Site::drawn(&mut random).links());
     }
-    u
-}
-
-// The first rows of three lists, which have that many.
-fn tried_rows(t: Tally, n: u32, rows: usize, a: &[u16], b: &[u16], w: &[u16]) -> Tally {
-    if a.len() < rows {
-        return counted(t, false);
-    }
-    if b.len() < rows {
-        return counted(t, false);
-    }
-    if w.len() < rows {
-        return counted(t, false);
-    }
-    tried(t, n, &a[..rows], &b[..rows], &w[..rows])
-}
-
-fn tried_site(t: Tally, s: Site) -> Tally {
-    let a = s.a;
-    let b = s.b;
-    let w = s.w;
-    tried_rows(t, s.n, s.rows, &a, &b, &w)
-}
-
-fn print(rt: &impl Print, what: &str, x: u32) -> io::Result<()> {
-    println!(rt; "{what}{x}")
+    tally
 }
 
 fn main(rt: HostRuntime) -> io::Result<()> {
-    let mut t = Tally {
-        yes: 0,
-        nothing: 0,
-        wrong: 0,
-    };
-    let mut seed: u32 = 1;
-    let mut i: u32 = 0;
-    while i < LISTS {
-        let s = drawn(seed);
-        seed = s.seed;
-        t = tried_site(t, s);
-        i += 1;
-    }
-    print(&rt, "random lists of 2 to 8 nodes: ", LISTS)?;
-    print(&rt, "asked for k from 1 to 8, a split given: ", t.yes)?;
-    print(&rt, "asked for k from 1 to 8, none: ", t.nothing)?;
-    print(
-        &rt,
-        "answers that trying every division contradicts: ",
-        t.wrong,
+    let tally = tried();
+    println!(rt; "random lists of 2 to 8 nodes: {LISTS}")?;
+    println!(rt; "asked for k from 1 to 8, a split given: {}", tally.yes)?;
+    println!(rt; "asked for k from 1 to 8, none: {}", tally.nothing)?;
+    println!(rt;
+        "answers that trying every division contradicts: {}",
+        tally.wrong
     )
 }

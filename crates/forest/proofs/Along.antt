@@ -2,24 +2,29 @@
 -- x, are the cables to those nodes, since the order names each node once. None of these sums comes near 2 ^ 32.
 use Prim.Native.Nat.{ℕ, zero, suc, ◌+◌, ◌≤◌, ◌<◌}
 use mathlib.Core.Path.{◌≡◌, refl, sym, ap, ◌∙◌, subst}
-use mathlib.Core.Bool.{not}
+use mathlib.Core.Bool.{not, false}
 use mathlib.Core.List.{List}
 use mathlib.Core.Logic.{⊎_elim}
 use native.Mathlib.Omega.{arith}
 use lib.ListN.{length, get_or, take}
-use lib.Seq.{take-suc}
+use lib.Seq.{take-suc, take_at}
+use Rattle.std.proofs.Common.{replicate}
+use Rattle.std.proofs.lemmas.List.{length-replicate, get_or-replicate}
 use lib.Dec.{eqb}
 use borrow.Author.Tests.{eq-eqb, ne_eqb}
 use Rattle.meaning.specs.Sums.{on, has}
-use Rattle.meaning.specs.Links.{LinkList, given, list_of, Accepted}
+use Rattle.meaning.specs.Numbers.{fine}
+use Rattle.meaning.specs.Links.{LinkList, Given, list_of, list_check, Accepted}
 use Rattle.meaning.specs.Order.{reach, back, prefix, all, order_of}
 use Rattle.meaning.specs.Forest.{position}
 use Rattle.laws.specs.Bools.{cases_eq}
 use Rattle.laws.specs.Sums.{sum_none, sum-suc}
-use Rattle.laws.specs.Lists.{distinct_eq, distinct_later, get_or-laid_new}
+use Rattle.laws.specs.Accept.{Words, fine_accepted}
+use Rattle.laws.specs.Lists.{distinct_eq, distinct_later}
 use Rattle.laws.specs.Rows.{back-nil, back-snoc}
 use Rattle.laws.specs.Order.{size_all, length-prefix, prefix_placed}
 use Rattle.thinning.specs.Place.{Lists, order_lists, place-lt, at_place}
+use Rattle.lists.proofs.Passed.{passed}
 use Rattle.table.specs.Table.{cell, cell_at, Holds, mark, Rows, Ready, Ran}
 use Rattle.forest.specs.Scan.{above, Turnable, Spread, Tabled, Scannable}
 use Rattle.forest.proofs.Reach.{back_most, back_self}
@@ -38,51 +43,39 @@ module _ (L : LinkList) (ok : Accepted L) where
   lists : Lists o L.nodes
   lists = order_lists L 0 ok.some_node
 
-  long : length o ≡ L.nodes
-  long = lists.long
+  inside : (p : ℕ) → p < length o → get_or o p 0 < 128
+  inside p h =
+      omega (
+        arith,
+        lists.long,
+        (prefix_placed L all 0 refl ok.some_node L.nodes (omega (arith, size_all L.nodes))).below p (omega arith),
+        ok.few_nodes,
+      )
 
-  below : (p : ℕ) → p < L.nodes → get_or o p 0 < L.nodes
-  below p h = (prefix_placed L all 0 refl ok.some_node L.nodes (omega (arith, size_all L.nodes))).below p (omega (arith, long))
-
-  module _ (m order : List ℕ) (t : Holds L m) (front : (p : ℕ) → p < L.nodes → get_or order p 0 ≡ get_or o p 0) where
-    inside : (p : ℕ) → p < L.nodes → get_or order p 0 < 128
-    inside p h = omega (arith, front p h, below p h, ok.few_nodes)
-
-    above-back : (p y : ℕ) → p ≤ L.nodes → y < 128 → above order m p y ≡ back L (has (take p o)) y
-    above-back zero y h hy = sum_none (λ q. cell_at m (get_or order q 0) y) ∙ sym (back-nil L y)
+  module _ (m : List ℕ) (t : Holds L m) where
+    above-back : (p y : ℕ) → p ≤ length o → y < 128 → above o m p y ≡ back L (has (take p o)) y
+    above-back zero y h hy = sum_none (λ q. cell_at m (get_or o q 0) y) ∙ sym (back-nil L y)
     above-back (suc p) y h hy =
         let x = get_or o p 0 in
-        let here : cell_at m (get_or order p 0) y ≡ back L (eqb x) y = t.cells (get_or order p 0) y (inside p h) hy ∙ cell-back L ok (get_or order p 0) y ∙ ap (λ v. back L (eqb v) y) (front p h) in
+        let here : cell_at m x y ≡ back L (eqb x) y = t.cells x y (inside p (omega arith)) hy ∙ cell-back L ok x y in
         let more : back L (has (take (suc p) o)) y ≡ back L (has (take p o)) y + back L (eqb x) y =
-        ap (λ l. back L (has l) y) (take-suc o p 0 (omega (arith, long)))
-        ∙ back-snoc L (take p o) x y (distinct_later o lists.once p p (omega arith) (omega (arith, long))) in
-        omega (arith, sum-suc p (λ q. cell_at m (get_or order q 0) y), above-back p y (omega arith) hy, here, more)
+        ap (λ l. back L (has l) y) (take-suc o p 0 (omega arith))
+        ∙ back-snoc L (take p o) x y (distinct_later o lists.once p p (omega arith) (omega arith)) in
+        omega (arith, sum-suc p (λ q. cell_at m (get_or o q 0) y), above-back p y (omega arith) hy, here, more)
 
-    turnable : (acc place : List ℕ) → L.nodes ≤ length order → length acc ≡ 128 → length place ≡ 128
-        → ((y : ℕ) → y < 128 → get_or acc y 0 ≡ 0)
-        → Turnable L.nodes order m acc place
-    turnable acc place whole width span zeros =
+    turnable : Turnable o m
+    turnable =
         record {
-          few = ok.few_nodes;
-          whole = whole;
-          nodes =
-              record {
-                inside = inside;
-                once = λ p q hp hq e. distinct_eq o lists.once p q (omega (arith, long)) (omega (arith, long)) (sym (front p hp) ∙ e ∙ front q hq);
-              };
-          size = t.size;
-          width = width;
-          span = span;
-          zeros = zeros;
+          few = omega (arith, lists.long, ok.few_nodes);
+          inside = inside;
+          once = λ p q hp hq e. distinct_eq o lists.once p q hp hq e;
           fits = λ p y hp hy. omega (arith, above-back p y hp hy, back_most L ok (has (take p o)) y);
         }
 
-    scannable : (m' place : List ℕ) → Spread L.nodes order m m' place → Scannable L o place m'
+    scannable : (m' place : List ℕ) → Spread (length o) o m m' place → Scannable L o 0 place m'
     scannable m' place s =
         record {
           accepted = ok;
-          size = s.size ∙ t.size;
-          span = s.span;
           lists = lists;
           places = λ v h. sym (ap (λ u. get_or place u 0) (node v h)) ∙ s.places (position o v) (at v h);
           cells = λ x y hx hy lt.
@@ -96,64 +89,62 @@ module _ (L : LinkList) (ok : Accepted L) where
               );
         }
       where
-        at : (v : ℕ) → v < L.nodes → position o v < L.nodes
-        at = place-lt o L.nodes lists
+        at : (v : ℕ) → v < L.nodes → position o v < length o
+        at v h = omega (arith, lists.long, place-lt o L.nodes lists v h)
 
-        node : (v : ℕ) → v < L.nodes → get_or order (position o v) 0 ≡ v
-        node v h = front (position o v) (at v h) ∙ at_place o L.nodes lists v h
+        node : (v : ℕ) → v < L.nodes → get_or o (position o v) 0 ≡ v
+        node v h = at_place o L.nodes lists v h
 
--- ---- from the table of a list, by a run of the order and a turn, to the numbering
+-- ---- from the table of a list of n nodes, by a run of the order and a turn, to the numbering
 
-module _ {n : ℕ} {L : LinkList} {m : List ℕ} (t : Tabled n L m) where
-  few : n ≤ 128
-  few = omega (arith, t.accepted.few_nodes, t.nodes)
-
+module _ {L : LinkList} {m : List ℕ} {n : ℕ} (t : Tabled L m) (nodes : n ≡ L.nodes) where
   -- with every node marked, the order may be run
-  pub ready : (score : List ℕ) → length score ≡ 128 → ((v : ℕ) → v < 128 → get_or score v 0 ≡ mark) → Ready L all n n 0 m score
-  ready score size marks =
+  pub ready : Ready L all n n 0 m (replicate 128 mark)
+  ready =
       record {
         table = t.table;
         few_rows = t.accepted.few_rows;
         light = t.accepted.light;
-        nodes = t.nodes;
-        few_nodes = few;
-        inside = omega (arith, t.accepted.some_node, t.nodes);
+        nodes = sym nodes;
+        few_nodes = omega (arith, t.accepted.few_nodes);
+        inside = omega (arith, t.accepted.some_node);
         start_live = refl;
         count_live = size_all n;
-        size = size;
-        marks = λ v h. marks v (omega (arith, few));
+        size = length-replicate 128 mark;
+        marks = λ v h. get_or-replicate 128 v mark 0 (omega (arith, t.accepted.few_nodes));
       }
 
   module _ {order₀ order backs₀ backs : List ℕ} (run : Ran L all n 0 order₀ order backs₀ backs) where
-    front : (p : ℕ) → p < L.nodes → get_or order p 0 ≡ get_or (order_of L 0) p 0
-    front p h =
-        ap (λ l. get_or l p 0) run.order_is
-        ∙ get_or-laid_new (prefix L all 0 n) order₀ p (omega (arith, length-prefix L all 0 n, t.nodes))
-        ∙ ap (λ k. get_or (prefix L all 0 k) p 0) (sym t.nodes)
+    -- what it wrote is the order
+    ordered : take n order ≡ order_of L 0
+    ordered = ap (take n) run.order_is ∙ take_at (prefix L all 0 n) _ n (length-prefix L all 0 n) ∙ ap (prefix L all 0) nodes
 
     -- the table may be turned along it
-    pub run_turnable : (acc place : List ℕ) → length order ≡ 128 → length acc ≡ 128 → length place ≡ 128
-        → ((y : ℕ) → y < 128 → get_or acc y 0 ≡ 0)
-        → Turnable n order m acc place
-    run_turnable acc place size width span zeros =
-        subst
-        (λ k. Turnable k order m acc place)
-        t.nodes
-        (turnable L t.accepted m order t.table front acc place (omega (arith, few, t.nodes)) width span zeros)
+    pub run_turnable : Turnable (take n order) m
+    run_turnable = subst (λ o. Turnable o m) (sym ordered) (turnable L t.accepted m t.table)
 
     -- and then the rows numbered
-    pub run_scannable : (m' place : List ℕ) → Spread n order m m' place → Scannable L (order_of L 0) place m'
-    run_scannable m' place s =
-        scannable L t.accepted m order t.table front m' place (subst (λ k. Spread k order m m' place) (sym t.nodes) s)
+    pub run_scannable : {m' place : List ℕ} → Spread (length (take n order)) (take n order) m m' place
+        → Scannable L (order_of L 0) 0 place m'
+    run_scannable {m'} {place} s =
+        scannable L t.accepted m t.table m' place (subst (λ o. Spread (length o) o m m' place) ordered s)
 
--- an accepted list's rows may be put into the table
-pub rows_of : (n : ℕ) (a b w : List ℕ) → Accepted (list_of (given n a b w)) → length a ≡ length b → length a ≡ length w → Rows a b w
-rows_of n a b w ok eb ew =
-    record {
-      same_b = sym eb;
-      same_w = sym ew;
-      few = ok.few_rows;
-      a_inside = λ r h. omega (arith, ok.a_inside r h, ok.few_nodes);
-      b_inside = λ r h. omega (arith, ok.b_inside r h, ok.few_nodes);
-      apart = ok.apart;
-    }
+-- ---- of a list that passed its checks
+
+module _ (g : Given) (fine' : list_check g false ≡ fine) where
+  -- its rows may be put into the table
+  pub passed_rows : Rows g.la g.lb g.lw
+  passed_rows =
+      let p = passed g false fine' in
+      record {
+        same_b = sym p.even.as_b;
+        same_w = sym p.even.as_w;
+        few = p.few_rows;
+        a_inside = λ r h. omega (arith, (p.rows r h).a_in, p.few_nodes);
+        b_inside = λ r h. omega (arith, (p.rows r h).b_in, p.few_nodes);
+        apart = λ r h. (p.rows r h).ends_apart;
+      }
+
+  -- and what they make there is an accepted list's table
+  pub passed_tabled : {m : List ℕ} → Words g → Holds (list_of g) m → Tabled (list_of g) m
+  passed_tabled words t = record { accepted = fine_accepted g false words fine'; table = t }

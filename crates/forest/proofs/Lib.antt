@@ -1,4 +1,3 @@
-pub mod Rows
 pub mod Turning
 pub mod Reach
 pub mod Numbering

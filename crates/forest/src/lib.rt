@@ -6,161 +6,141 @@
 // (`meaning`'s `firsts_of`).
 #![tactic(auto)]
 
-ghost use Rattle.std.specs.Prelude.{◌≡◌, List, ℕ, ◌+◌, ◌^◌, ◌<◌, length, get_or};
+ghost use Rattle.std.specs.Prelude.{◌≡◌, ℕ, ◌+◌, ◌^◌, ◌<◌, ◌≤◌, length, get_or};
 ghost use Rattle.meaning.specs.Sums.{laid};
-ghost use Rattle.meaning.specs.Links.{LinkList, list_of, given, Accepted};
-ghost use Rattle.meaning.specs.Order.{order_of};
-ghost use Rattle.table.specs.Table.{cell_at};
+ghost use Rattle.meaning.specs.Calls.{order0};
+ghost use Rattle.lists.specs.Given.{given_by, list_by};
 ghost use Rattle.forest.specs.Forest.{FirstNumbers, firsts0};
-ghost use Rattle.forest.specs.Scan.{Exchanged, Turnable, Spread, Numbered, Tabled, Scannable, Roomy, FirstsAlong, cell_of};
+ghost use Rattle.table.specs.Table.{cell_at};
+ghost use Rattle.forest.specs.Scan.{Exchanged, Turnable, Spread, Numbered, Tabled, Scannable, cell_of};
 
-use answers::Told;
-
-// ---- turning the table along the order
+use answers::Refusal;
+use lists::{Checked, Links, NODES, Row};
+use table::CELLS;
 
 // A row of the table and the sums change places, and the row is added to the sums.
-fn exchange(row: &mut [u32], acc: &mut [u32])
-    requires row_len { length row.old ≡ 128 }
-    requires acc_len { length acc.old ≡ 128 }
-    requires by_index { (y : ℕ) → y < 128 → get_or acc.old y 0 + get_or row.old y 0 < 2 ^ 32 }
-    ensures row_after { row.new ≡ acc.old }
-    ensures by_index_2 { (y : ℕ) → y < 128 → get_or acc.new y 0 ≡ get_or acc.old y 0 + get_or row.old y 0 }
+fn exchange(row: &mut [u32], sums: &mut [u32; NODES])
+    requires full { length row.old ≡ 128 }
+    requires fits { (y : ℕ) → y < 128 → get_or sums.old y 0 + get_or row.old y 0 < 2 ^ 32 }
+    ensures row_then { row.new ≡ sums.old }
+    ensures sums_then { (y : ℕ) → y < 128 → get_or sums.new y 0 ≡ get_or sums.old y 0 + get_or row.old y 0 }
 {
-    for y in 0..128 {
-        let t = row[y];
-        let s = acc[y];
-        row[y] = s;
-        acc[y] = s + t;
+    // The sums by index: of what is written through a zip of two `iter_mut`, a proof knows the length alone.
+    for (y, r) in row.iter_mut().enumerate() {
+        let cell = *r;
+        *r = sums[y];
+        sums[y] += cell;
     }
 }
 
 // The same for row x of the whole table.
-fn turn(x: usize, m: &mut [u32], acc: &mut [u32])
-    requires x_bound { x < 128 }
-    requires m_len { length m.old ≡ 16384 }
-    requires acc_len { length acc.old ≡ 128 }
-    requires by_index { (y : ℕ) → y < 128 → get_or acc.old y 0 + cell_at m.old x y < 2 ^ 32 }
-    ensures { Exchanged x m.old m.new acc.old acc.new }
+fn exchange_row(x: usize, m: &mut [u32; CELLS], sums: &mut [u32; NODES])
+    requires inside { x < 128 }
+    requires fits { (y : ℕ) → y < 128 → get_or sums.old y 0 + cell_at m.old x y < 2 ^ 32 }
+    ensures { Exchanged x m.old m.new sums.old sums.new }
 {
-    let from = x * 128;
-    let to = from + 128;
-    exchange(&mut m[from..to], acc);
+    let from = x * NODES;
+    exchange(&mut m[from..from + NODES], sums);
 }
 
-fn wide(x: u16) -> usize
-    ensures { result ≡ x }
-{
-    x as usize
+// The table of a list, and the place of each node in its order.
+#[derive(Drop)]
+struct Scan {
+    m: [u32; CELLS],
+    place: [u16; NODES],
 }
 
-// Along the order each node gets its place, and its row becomes what the rows of the nodes before it hold.
-fn spread(n: usize, order: &[u16], m: &mut [u32], acc: &mut [u32], place: &mut [u16])
-    requires { Turnable n order.now m.old acc.old place.old }
-    ensures { Spread n order.now m.old m.new place.new }
-{
-    for p in 0..n {
-        let x = wide(order[p]);
-        place[x] = p as u16;
-        turn(x, m, acc);
+impl Scan {
+    // Along the order each node gets its place, and its row becomes what the rows of the nodes before it hold.
+    fn spread(&mut self, order: &[u16])
+        requires { Turnable order.now self.old.m }
+        ensures { Spread (length order.now) order.now self.old.m self.new.m self.new.place }
+    {
+        let mut sums = [0u32; NODES];
+        for (p, x) in order.iter().enumerate() {
+            let x = usize::from(*x);
+            self.place[x] = p as u16;
+            exchange_row(x, &mut self.m, &mut sums);
+        }
+    }
+
+    // The order of a list is run on its table, and the table is turned along it.
+    fn turn(&mut self, list: &Checked<'_>)
+        requires { Tabled (list_by list.now.links) self.old.m }
+        ensures { Scannable (list_by list.now.links) (order0 (given_by list.now.links)) 0 self.new.place self.new.m }
+    {
+        let n = list.nodes();
+        let mut score = [table::OPEN; NODES];
+        let mut order = [0u16; NODES];
+        let mut back = [0u32; NODES];
+        table::run(n, n, 0, &self.m, &mut score, &mut order, &mut back);
+        self.spread(&order[..n]);
+    }
+
+    // The cell of a row between x and y: that of its earlier end and its later.
+    fn cell_of(&self, x: u16, y: u16) -> usize
+        requires ends { (x < 128) × (y < 128) }
+        ensures cell { result ≡ cell_of self.now.place x y }
+        ensures inside { result < 16384 }
+    {
+        let x = usize::from(x);
+        let y = usize::from(y);
+        if self.place[x] < self.place[y] {
+            x * NODES + y
+        } else {
+            y * NODES + x
+        }
+    }
+
+    // The number of a row, from its cell, which its cables advance.
+    fn number_row(&mut self, row: Row) -> u32
+        requires ends { (row.a < 128) × (row.b < 128) }
+        requires room { get_or self.old.m (cell_of self.old.place row.a row.b) 0 + row.w + 1 < 2 ^ 32 }
+        ensures numbered { Numbered (cell_of self.old.place row.a row.b) row.w self.old.m self.new.m result }
+        ensures places { self.new.place ≡ self.old.place }
+    {
+        let at = self.cell_of(row.a, row.b);
+        let f = self.m[at];
+        self.m[at] = f + u32::from(row.w);
+        f + 1
+    }
+
+    // The rows in row order, one number each.
+    fn number_rows(&mut self, list: &Checked<'_>, first: &mut [u32])
+        requires room { length list.now.links.a.now ≤ length first.old }
+        requires turned { Scannable (list_by list.now.links) (order0 (given_by list.now.links)) 0 self.old.place self.old.m }
+        ensures { first.new ≡ laid (firsts0 (given_by list.now.links)) first.old }
+    {
+        let Links { a, b, w, .. } = list.links;
+        for r in 0..a.len() {
+            first[r] = self.number_row(Row {
+                a: a[r],
+                b: b[r],
+                w: w[r],
+            });
+        }
     }
 }
 
-// ---- numbering the rows
-
-fn long(x: u16) -> u32
-    ensures { result ≡ x }
+// The first forest numbers of a list, one for each row, in row order.
+fn number(list: &Checked<'_>, first: &mut [u32])
+    requires room { length list.now.links.a.now ≤ length first.old }
+    ensures { first.new ≡ laid (firsts0 (given_by list.now.links)) first.old }
 {
-    x as u32
-}
-
-// The cell of a row between x and y: that of its earlier end and its later.
-fn cell_of(place: &[u16], x: usize, y: usize) -> usize
-    requires x_bound { x < 128 }
-    requires y_bound { y < 128 }
-    requires place_len { length place.now ≡ 128 }
-    ensures value { result ≡ cell_of place.now x y }
-    ensures upper_bound { result < 16384 }
-{
-    let p = place[x];
-    let q = place[y];
-    if p < q {
-        return x * 128 + y;
-    }
-    y * 128 + x
-}
-
-// A row of weight w is numbered from the cell, which its cables advance.
-fn visit(m: &mut [u32], at: usize, w: u32) -> u32
-    requires at_in_bounds { at < length m.old }
-    requires w_bound { get_or m.old at 0 + w + 1 < 2 ^ 32 }
-    ensures { Numbered at w m.old m.new result }
-{
-    let f = m[at];
-    m[at] = f + w;
-    f + 1
-}
-
-// The row from x to y: its number.
-fn number_row(place: &[u16], m: &mut [u32], x: u16, y: u16, w: u16) -> u32
-    requires x_bound { x < 128 }
-    requires y_bound { y < 128 }
-    requires place_len { length place.now ≡ 128 }
-    requires m_len { length m.old ≡ 16384 }
-    requires w_bound { get_or m.old (cell_of place.now x y) 0 + w + 1 < 2 ^ 32 }
-    ensures { Numbered (cell_of place.now x y) w m.old m.new result }
-{
-    let at = cell_of(place, wide(x), wide(y));
-    visit(m, at, long(w))
-}
-
-// The rows in row order, one number each.
-fn number_rows(a: &[u16], b: &[u16], w: &[u16], place: &[u16], m: &mut [u32], first: &mut [u32])
-    requires roomy { Roomy a.now b.now w.now first.old }
-    requires by_index { (n : ℕ) × (o : List ℕ) × Scannable (list_of (given n a.now b.now w.now)) o place.now m.old }
-    ensures { FirstsAlong a.now b.now w.now place.now m.old first.old first.new }
-{
-    for i in 0..a.len() {
-        first[i] = number_row(place, m, a[i], b[i], w[i]);
-    }
-}
-
-// ---- the call
-
-// The order is run on the table, and the table is turned along it.
-fn scan(n: usize, m: &mut [u32], place: &mut [u16])
-    requires place_len { length place.old ≡ 128 }
-    requires tabled { (L : LinkList) × Tabled n L m.old }
-    ensures { (L : LinkList) → Tabled n L m.old → Scannable L (order_of L 0) place.new m.new }
-{
-    let mut score = [table::OPEN; 128];
-    let mut order = [0u16; 128];
-    let mut back = [0u32; 128];
-    table::run(n, n, 0, m, &mut score, &mut order, &mut back);
-    let mut acc = [0u32; 128];
-    spread(n, &order, m, &mut acc, place);
-}
-
-// The first forest numbers of an accepted list.
-fn number(n: usize, a: &[u16], b: &[u16], w: &[u16], first: &mut [u32])
-    requires accepted { Accepted (list_of (given n a.now b.now w.now)) }
-    requires roomy { Roomy a.now b.now w.now first.old }
-    ensures { first.new ≡ laid (firsts0 (given n a.now b.now w.now)) first.old }
-{
-    let mut m = [0u32; 16384];
-    table::fill(a, b, w, &mut m);
-    let mut place = [0u16; 128];
-    scan(n, &mut m, &mut place);
-    number_rows(a, b, w, &place, &mut m, first);
+    let mut scan = Scan {
+        m: [0; CELLS],
+        place: [0; NODES],
+    };
+    table::fill(&list.links, &mut scan.m);
+    scan.turn(list);
+    scan.number_rows(list, first);
 }
 
 // The first forest number of each row, in row order; one place per row is needed.
-pub fn forest(n: u32, a: &[u16], b: &[u16], w: &[u16], first: &mut [u32]) -> Told
-    ensures { FirstNumbers (given n a.now b.now w.now) first.old result first.new }
+pub fn forest(links: &Links<'_>, first: &mut [u32]) -> Result<(), Refusal>
+    ensures { FirstNumbers (given_by links.now) first.old result first.new }
 {
-    let told = lists::check(n, a, b, w, first.len() < a.len());
-    let Told::Done = told else {
-        return told;
-    };
-    number(n as usize, a, b, w, first);
-    Told::Done
+    let list = links.check(first.len() < links.a.len())?;
+    number(&list, first);
+    Ok(())
 }

@@ -9,7 +9,7 @@ use lib.ListN.{length, set, length-set}
 use lib.Seq.{get_or-set_same, get_or-set_other}
 use Rattle.laws.specs.Bools.{cases_eq, cases_lt}
 use Rattle.table.specs.Table.{cell_at}
-use Rattle.least.specs.Rounds.{Light, CellFolded, RowFolded, NodeFolded, ColumnFolded, Folded}
+use Rattle.least.specs.Rounds.{Light, RowFolded, ColumnFolded, Folded}
 
 -- ---- one store
 
@@ -24,7 +24,15 @@ store_column m p q x r s hq hs ne = get_or-set_other m (p * 128 + q) (r * 128 + 
 
 -- ---- a row
 
-pub cell_folded : (keep gone c : ℕ) (m : List ℕ) → length m ≡ 16384 → keep < 128 → gone < 128 → c < 128 → (keep ≡ gone → ⊥)
+-- in column c, the cell of row `gone` was added to that of row `keep` and cleared
+record CellFolded (keep gone c : ℕ) (m m' : List ℕ) : Type 0 where
+  size : length m' ≡ length m
+  added : cell_at m' keep c ≡ cell_at m keep c + cell_at m gone c
+  cleared : cell_at m' gone c ≡ 0
+  other_rows : (p q : ℕ) → p < 128 → q < 128 → (p ≡ keep → ⊥) → (p ≡ gone → ⊥) → cell_at m' p q ≡ cell_at m p q
+  other_columns : (p q : ℕ) → p < 128 → q < 128 → (q ≡ c → ⊥) → cell_at m' p q ≡ cell_at m p q
+
+cell_folded : (keep gone c : ℕ) (m : List ℕ) → length m ≡ 16384 → keep < 128 → gone < 128 → c < 128 → (keep ≡ gone → ⊥)
     → CellFolded keep gone c m (set (set m (keep * 128 + c) (cell_at m keep c + cell_at m gone c)) (gone * 128 + c) 0)
 cell_folded keep gone c m size hk hg hc two =
     let x = cell_at m keep c + cell_at m gone c in
@@ -47,9 +55,9 @@ row_none keep gone m =
       other_columns = λ p q hp hq h. refl;
     }
 
-pub row_more : {keep gone c : ℕ} {m₀ m m' : List ℕ} → RowFolded keep gone c m₀ m → CellFolded keep gone c m m' → keep < 128 → gone < 128
+row_step : {keep gone c : ℕ} {m₀ m m' : List ℕ} → RowFolded keep gone c m₀ m → CellFolded keep gone c m m' → keep < 128 → gone < 128
     → c < 128 → RowFolded keep gone (c + 1) m₀ m'
-row_more {keep} {gone} {c} {m₀} {m} {m'} s t hk hg hc =
+row_step {keep} {gone} {c} {m₀} {m} {m'} s t hk hg hc =
     record {
       size = t.size ∙ s.size;
       added = λ q h.
@@ -70,13 +78,27 @@ row_more {keep} {gone} {c} {m₀} {m} {m'} s t hk hg hc =
       other_columns = λ p q hp hq h. t.other_columns p q hp hq (λ e. omega arith) ∙ s.other_columns p q hp hq (omega arith);
     }
 
+-- a turn
+pub row_more : {keep gone c : ℕ} {m₀ m : List ℕ} → RowFolded keep gone c m₀ m → length m ≡ 16384 → keep < gone → gone < 128 → c < 128
+    → RowFolded keep gone (c + 1) m₀ (set (set m (keep * 128 + c) (cell_at m keep c + cell_at m gone c)) (gone * 128 + c) 0)
+row_more {keep} {gone} {c} {m₀} {m} s size two hg hc =
+    row_step s (cell_folded keep gone c m size (omega arith) hg hc (λ e. omega arith)) (omega arith) hg hc
+
 -- what is not folded yet is as light as it was
 pub row_light : {keep gone c : ℕ} {m₀ m : List ℕ} → RowFolded keep gone c m₀ m → Light m₀ → c < 128 → (p : ℕ) → p < 128 → cell_at m p c < 2147483648
 row_light {keep} {gone} {c} s light hc p hp = rw (s.other_columns p c hp hc (omega arith)) (light p c hp hc)
 
 -- ---- a column
 
-pub node_folded : (keep gone r : ℕ) (m : List ℕ) → length m ≡ 16384 → keep < 128 → gone < 128 → r < 128 → (keep ≡ gone → ⊥)
+-- in row r, column `keep` was copied from row `keep`, and column `gone` cleared
+record NodeFolded (keep gone r : ℕ) (m m' : List ℕ) : Type 0 where
+  size : length m' ≡ length m
+  copied : cell_at m' r keep ≡ cell_at m keep r
+  cleared : cell_at m' r gone ≡ 0
+  other_columns : (p q : ℕ) → p < 128 → q < 128 → (q ≡ keep → ⊥) → (q ≡ gone → ⊥) → cell_at m' p q ≡ cell_at m p q
+  other_rows : (p q : ℕ) → p < 128 → q < 128 → (p ≡ r → ⊥) → cell_at m' p q ≡ cell_at m p q
+
+node_folded : (keep gone r : ℕ) (m : List ℕ) → length m ≡ 16384 → keep < 128 → gone < 128 → r < 128 → (keep ≡ gone → ⊥)
     → NodeFolded keep gone r m (set (set m (r * 128 + keep) (cell_at m keep r)) (r * 128 + gone) 0)
 node_folded keep gone r m size hk hg hr two =
     let x = cell_at m keep r in
@@ -112,9 +134,9 @@ keep_row {keep} {gone} {r} {m₀} {m} s zero hk hr =
     (λ later. s.other_rows keep r hk hr later)
     (cases_lt keep r)
 
-pub column_more : {keep gone r : ℕ} {m₀ m m' : List ℕ} → ColumnFolded keep gone r m₀ m → NodeFolded keep gone r m m'
+column_step : {keep gone r : ℕ} {m₀ m m' : List ℕ} → ColumnFolded keep gone r m₀ m → NodeFolded keep gone r m m'
     → cell_at m₀ keep gone ≡ 0 → keep < 128 → gone < 128 → r < 128 → ColumnFolded keep gone (r + 1) m₀ m'
-column_more {keep} {gone} {r} {m₀} {m} {m'} s t zero hk hg hr =
+column_step {keep} {gone} {r} {m₀} {m} {m'} s t zero hk hg hr =
     record {
       size = t.size ∙ s.size;
       copied = λ p h.
@@ -130,6 +152,13 @@ column_more {keep} {gone} {r} {m₀} {m} {m'} s t zero hk hg hr =
       other_columns = λ p q hp hq nk ng. t.other_columns p q hp hq nk ng ∙ s.other_columns p q hp hq nk ng;
       other_rows = λ p q hp hq h. t.other_rows p q hp hq (λ e. omega arith) ∙ s.other_rows p q hp hq (omega arith);
     }
+
+-- a turn
+pub column_more : {keep gone r : ℕ} {m₀ m : List ℕ} → ColumnFolded keep gone r m₀ m → length m ≡ 16384 → cell_at m₀ keep gone ≡ 0
+    → keep < gone → gone < 128 → r < 128
+    → ColumnFolded keep gone (r + 1) m₀ (set (set m (r * 128 + keep) (cell_at m keep r)) (r * 128 + gone) 0)
+column_more {keep} {gone} {r} {m₀} {m} s size zero two hg hr =
+    column_step s (node_folded keep gone r m size (omega arith) hg hr (λ e. omega arith)) zero (omega arith) hg hr
 
 -- ---- both
 

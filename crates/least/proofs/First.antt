@@ -6,21 +6,37 @@ use Prim.Native.Nat.{ℕ, zero, suc, ◌-◌, ◌≤◌, ◌<◌}
 use native.Mathlib.Omega.{arith}
 use lib.ListN.{length, get_or, take}
 use lib.Seq.{get_or-take, length-take-le}
+use Rattle.answers.specs.declared.Side.{Side}
 use Rattle.meaning.specs.Links.{LinkList, Accepted}
-use Rattle.meaning.specs.Order.{all, prefix, order_of, back_at}
-use Rattle.meaning.specs.Split.{Split, group, merged, noted, better, group_order, rounds, least_of}
+use Rattle.meaning.specs.Order.{all, prefix, order_of, back_at, backs_of}
+use Rattle.laws.specs.Lists.{get_or-laid_new, get_or-listed, length-laid, length-listed}
+use Rattle.laws.specs.Order.{length-prefix}
+use Rattle.meaning.specs.Split.{merged, noted, group_order, rounds, least_of}
 use Rattle.laws.specs.Bools.{eqb_same}
-use Rattle.laws.specs.Rows.{cut-links}
-use Rattle.laws.specs.Accept.{links_most}
 use Rattle.method.specs.Least.{Groups, accepted_ends, all_groups, last_of, before_of, noted_value, round_groups, rounds_real}
 use Rattle.method.specs.Question.{NoneBelow}
-use Rattle.sides.specs.Bits.{labelled}
-use Rattle.least.specs.declared.Noted.{Noted}
-use Rattle.table.specs.Table.{Numbered}
-use Rattle.least.specs.Rounds.{Notes, above}
+use Rattle.sides.specs.Bits.{labelled, Sided}
+use Rattle.table.specs.Table.{Ran, Numbered}
+use Rattle.least.specs.Rounds.{Notes}
 use Rattle.table.specs.Floor.{Along}
-use Rattle.least.proofs.Noting.{better_yes, better_no}
+use Rattle.least.proofs.Noting.{better_no, noted_side}
 use Rattle.least.proofs.Going.{real_division}
+
+-- what the run of a whole list lays in two lists of 128 places
+pub ran_along : {L : LinkList} {order order' back back' : List ℕ} → L.nodes ≤ 128 → length order ≡ 128 → length back ≡ 128
+    → Ran L all L.nodes 0 order order' back back' → Along L order' back'
+ran_along {L} {order} {order'} {back} {back'} few so sb r =
+    let o = order_of L 0 in
+    let len = length-prefix L all 0 L.nodes in
+    let blen = length-listed (length o) (back_at L o) in
+    record {
+      order_size = ap length r.order_is ∙ length-laid o order (omega (arith, len)) ∙ so;
+      back_size = ap length r.back_is ∙ length-laid (backs_of L o) back (omega (arith, len, blen)) ∙ sb;
+      order_is = λ p h. ap (λ l. get_or l p 0) r.order_is ∙ get_or-laid_new o order p (omega (arith, len));
+      back_is = λ p h.
+          ap (λ l. get_or l p 0) r.back_is ∙ get_or-laid_new (backs_of L o) back p (omega (arith, len, blen))
+          ∙ get_or-listed (length o) (back_at L o) p (omega (arith, len));
+    }
 
 -- with every node its own group all are live
 order_first : (L : LinkList) (m : ℕ) → prefix L all 0 m ≡ group_order L 0 (λ v. v) m
@@ -75,16 +91,16 @@ module _ (L : LinkList) (acc : Accepted L) (j : ℕ) (many : L.nodes ≡ suc (su
         ∙ sym (noted_value L all (accepted_ends L acc) 0 start refl j (λ v. v) gs)
 
     -- what the code notes then is the least split
-    pub first_notes : (label : List ℕ) {empty r : Noted} (low : ℕ) → length label ≡ 128 → Numbered label → Notes (length (take n label)) above empty
-        → ((p q : Split) → Notes (length (take n label)) p empty → get_or back (n - 1) 0 ≡ q.value
-        → ((v : ℕ) → v < length (take n label) → labelled (take n label) (get_or order (n - 1) 0) v ≡ q.side v)
-        → Notes (length (take n label)) (better p q) r)
-        → NoneBelow L low → get_or back (n - 1) 0 ≤ low → Notes n (least_of L 0) r
-    first_notes label {empty} {r} low size numbers notes note none le =
-        let whole : length (take n label) ≡ n = length-take-le n label (omega (arith, acc.few_nodes)) in
+    pub first_notes : (label : List ℕ) {w : Side} (low : ℕ) → length label ≡ 128 → Numbered label
+        → Sided (length (take n label)) (labelled (take n label) (get_or order (n - 1) 0)) w → NoneBelow L low → get_or back (n - 1) 0 ≤ low
+        → Notes n (least_of L 0) (record { value = get_or back (n - 1) 0; side = w })
+    first_notes label {w} low size numbers made none le =
+        let few = acc.few_nodes in
+        let whole : length (take n label) ≡ n = length-take-le n label (omega arith) in
         let q = noted L (λ v. v) t in
-        let side : (v : ℕ) → v < length (take n label) → labelled (take n label) (get_or order (n - 1) 0) v ≡ q.side v = λ v h.
-        rw (get_or-take n label v 0 (omega arith), numbers v (omega (arith, acc.few_nodes)), last_is) refl in
+        let side : (v : ℕ) → v < n → labelled (take n label) (get_or order (n - 1) 0) v ≡ q.side v = λ v h.
+        rw (get_or-take n label v 0 h, numbers v (omega arith), last_is) refl in
         let least : least_of L 0 ≡ q = first_stands (λ S d. omega (arith, value_is, none S d)) in
-        let better-is : better above q ≡ q = better_yes above q (omega (arith, cut-links L (group (λ v. v) t), links_most L acc)) in
-        subst (λ p. Notes n p r) (better-is ∙ sym least) (subst (λ k. Notes k (better above q) r) whole (note above q notes value_is side))
+        let parts : Sided n (labelled (take n label) (get_or order (n - 1) 0)) w =
+        subst (λ k. Sided k (labelled (take n label) (get_or order (n - 1) 0)) w) whole made in
+        rw least (noted_side q (labelled (take n label) (get_or order (n - 1) 0)) value_is few parts side)

@@ -3,6 +3,7 @@
 -- Assumes nothing.
 use mathlib.Core.Path.{◌≡◌, refl, sym, ap, ◌∙◌, subst}
 use mathlib.Core.List.{List}
+use Rattle.std.specs.Prelude.{Option, Some, None}
 use Prim.Native.Nat.{ℕ, zero, suc, ◌-◌, ◌≤◌, ◌<◌}
 use native.Mathlib.Omega.{arith}
 use Rattle.meaning.specs.Links.{LinkList, links}
@@ -14,8 +15,8 @@ use Rattle.laws.specs.Rounds.{better_now, better_assoc}
 use Rattle.method.specs.Least.{Groups, Real, accepted_ends, rounds_real, last_of, before_of}
 use Rattle.method.specs.Division.{Division}
 use Rattle.method.specs.Question.{NoneBelow}
-use Rattle.least.specs.declared.Noted.{Noted}
-use Rattle.least.specs.Rounds.{Grouped, Notes, After, above}
+use Rattle.answers.specs.declared.Split.{Split as Parted}
+use Rattle.least.specs.Rounds.{Grouped, NotesYet, Notes, After, above}
 use Rattle.least.proofs.Noting.{better_yes, better_no}
 use Rattle.least.proofs.Grouping.{in_groups}
 
@@ -25,7 +26,7 @@ rest L start p g zero = p
 rest L start p g (suc zero) = p
 rest L start p g (suc (suc j)) = better p (rounds L start j g)
 
-pub record Going (L : LinkList) (start n count : ℕ) (m label : List ℕ) (r : Noted) : Type 0 where
+pub record Going (L : LinkList) (start n count : ℕ) (m label : List ℕ) (r : Parted) : Type 0 where
   pub g : ℕ → ℕ
   pub p : Split
   pub grouped : Grouped L g n count m label
@@ -42,24 +43,6 @@ rounds_low L start (suc j) g =
       cut-links L (group g (last_of L start g (suc j))),
     )
 
-pub going_first : {L : LinkList} {n : ℕ} {m label : List ℕ} {r : Noted} (start : ℕ) → Grouped L (λ v. v) n n m label → 2 ≤ n → Notes n above r
-    → Going L start n n m label r
-going_first {L} {n} {m} {label} {r} start s two notes =
-    record {
-      g = λ v. v;
-      p = above;
-      grouped = s;
-      notes = notes;
-      same = first (n - 2) (omega arith);
-    }
-  where
-    first : (j : ℕ) → n ≡ suc (suc j) → least_of L start ≡ rest L start above (λ v. v) n
-    first j e =
-        let left : L.nodes - 2 ≡ j = omega (arith, s.nodes) in
-        ap (λ k. rounds L start k (λ v. v)) left
-        ∙ sym (better_yes above (rounds L start j (λ v. v)) (omega (arith, rounds_low L start j (λ v. v), links_most L s.accepted)))
-        ∙ ap (rest L start above (λ v. v)) (sym e)
-
 -- a round's better part goes over to what is noted
 next : (L : LinkList) (start j : ℕ) (p : Split) (g : ℕ → ℕ)
     → better p (rounds L start j g)
@@ -69,29 +52,47 @@ next L start zero p g = refl
 next L start (suc j) p g =
     sym (better_assoc p (noted L g (last_of L start g (suc j))) (rounds L start j (merged g (before_of L start g (suc j)) (last_of L start g (suc j)))))
 
-pub going_on : {L : LinkList} {start n j : ℕ} {m label m' label' : List ℕ} {r r' : Noted} (s : Going L start n (suc (suc j)) m label r)
-    → After L start s.g j n s.p m' label' r' → Going L start n (suc j) m' label' r'
-going_on {L} {start} {n} {j} {m} {label} {m'} {label'} {r} {r'} s t =
+-- a round, with p noted before it
+going_on : {L : LinkList} {start n j : ℕ} {m label : List ℕ} {r : Parted} (g : ℕ → ℕ) (p : Split)
+    → least_of L start ≡ better p (rounds L start j g) → After L start g j n p m label r → Going L start n (suc j) m label r
+going_on {L} {start} {n} {j} {m} {label} {r} g p same t =
     record {
-      g = merged s.g (before_of L start s.g j) (last_of L start s.g j);
-      p = better s.p (noted L s.g (last_of L start s.g j));
+      g = merged g (before_of L start g j) (last_of L start g j);
+      p = better p (noted L g (last_of L start g j));
       grouped = t.grouped;
       notes = t.notes;
-      same = s.same ∙ next L start j s.p s.g;
+      same = same ∙ next L start j p g;
     }
 
--- a round as the code has it, which counts the groups
-pub going_round : {L : LinkList} {start n count : ℕ} {m label m' label' : List ℕ} {r r' : Noted} → Going L start n count m label r → 2 ≤ count
-    → ((L : LinkList) (g : ℕ → ℕ) (j : ℕ) (p : Split) → count ≡ suc (suc j) → Grouped L g n count m label → Notes n p r
-    → After L start g j n p m' label' r')
-    → Going L start n (count - 1) m' label' r'
-going_round {L} {start} {n} {count} {m} {label} {m'} {label'} {r} {r'} s two round =
+-- what a round promises of `count` groups, where r is noted
+abbrev pub Round : ℕ → ℕ → ℕ → Option Parted → List ℕ → List ℕ → List ℕ → List ℕ → Parted → Type 0
+Round start n count r m label m' label' r' =
+    (L : LinkList) (g : ℕ → ℕ) (j : ℕ) (p : Split) → count ≡ suc (suc j) → Grouped L g n count m label → NotesYet n p r
+    → After L start g j n p m' label' r'
+
+-- the first round
+pub going_first : {L : LinkList} {start n count left : ℕ} {m label m' label' : List ℕ} {r : Parted} → Grouped L (λ v. v) n count m label → 2 ≤ n
+    → count ≡ n → suc left ≡ count → Round start n count None m label m' label' r → Going L start n left m' label' r
+going_first {L} {start} {n} {count} {left} {m} {label} {m'} {label'} {r} s two all less round =
+    let j = n - 2 in
+    let many : count ≡ suc (suc j) = omega arith in
+    let rounds-left : L.nodes - 2 ≡ j = omega (arith, s.nodes) in
+    let first : least_of L start ≡ better above (rounds L start j (λ v. v)) =
+    ap (λ k. rounds L start k (λ v. v)) rounds-left
+    ∙ sym (better_yes above (rounds L start j (λ v. v)) (omega (arith, rounds_low L start j (λ v. v), links_most L s.accepted))) in
+    let one : suc j ≡ left = omega arith in
+    subst (λ k. Going L start n k m' label' r) one
+    (going_on (λ v. v) above first (round L (λ v. v) j above many s refl))
+
+-- and each later one
+pub going_round : {L : LinkList} {start n count left : ℕ} {m label m' label' : List ℕ} {r r' : Parted} → Going L start n count m label r
+    → 2 ≤ count → suc left ≡ count → Round start n count (Some r) m label m' label' r' → Going L start n left m' label' r'
+going_round {L} {start} {n} {count} {left} {m} {label} {m'} {label'} {r} {r'} s two less round =
     let j = count - 2 in
     let many : count ≡ suc (suc j) = omega arith in
-    let less : suc j ≡ count - 1 = omega arith in
-    let s₂ = subst (λ k. Going L start n k m label r) many s in
-    subst (λ k. Going L start n k m' label' r') less
-    (going_on s₂ (round L s₂.g j s₂.p many (subst (λ k. Grouped L s₂.g n k m label) (sym many) s₂.grouped) s₂.notes))
+    let one : suc j ≡ left = omega arith in
+    let same : least_of L start ≡ better s.p (rounds L start j s.g) = s.same ∙ ap (rest L start s.p s.g) many in
+    subst (λ k. Going L start n k m' label' r') one (going_on s.g s.p same (round L s.g j s.p many s.grouped s.notes))
 
 -- a real split is a division
 pub real_division : {L : LinkList} {start : ℕ} {p : Split} → Real L all start p → Division L.nodes p.side
@@ -101,7 +102,7 @@ real_division real =
     record { inside = (i.0, i.1, i.3); outside = (o.0, o.1, o.3) }
 
 -- the rounds may end when no division is below what is noted: whatever they would answer is a division
-pub going_low : {L : LinkList} {start n count : ℕ} {m label : List ℕ} {r : Noted} → Going L start n count m label r → start < n
+pub going_low : {L : LinkList} {start n count : ℕ} {m label : List ℕ} {r : Parted} → Going L start n count m label r → start < n
     → (low : ℕ) → NoneBelow L low → r.value ≤ low → Notes n (least_of L start) r
 going_low {L} {start} {n} {count} {m} {label} {r} s inside low none le = rw (s.same ∙ kept count (in_groups s.grouped)) s.notes
   where
@@ -114,7 +115,7 @@ going_low {L} {start} {n} {count} {m} {label} {r} s inside low none le = rw (s.s
         better_no s.p (rounds L start j s.g) (omega (arith, s.notes.value_is, real.value_of, none (rounds L start j s.g).side (real_division real)))
 
 -- and they end when one group is left
-pub going_last : {L : LinkList} {start n count : ℕ} {m label : List ℕ} {r : Noted} → Going L start n count m label r → count ≤ 1
+pub going_last : {L : LinkList} {start n count : ℕ} {m label : List ℕ} {r : Parted} → Going L start n count m label r → count ≤ 1
     → Notes n (least_of L start) r
 going_last {L} {start} {n} {count} {m} {label} {r} s one = rw (s.same ∙ kept count one) s.notes
   where

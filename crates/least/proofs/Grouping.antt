@@ -5,6 +5,7 @@ use mathlib.Core.Path.{◌≡◌, refl, sym, ap, ◌∙◌, subst}
 use mathlib.Core.Logic.{◌⊎◌, inl, inr}
 use mathlib.Core.Bool.{not}
 use mathlib.Core.List.{List}
+use Rattle.std.specs.Prelude.{Option}
 use Prim.Native.Nat.{ℕ, suc, ◌-◌, ◌≤◌, ◌<◌, min, max}
 use native.Mathlib.Omega.{arith}
 use lib.ListN.{length, get_or, take}
@@ -18,16 +19,16 @@ use Rattle.meaning.specs.Split.{Split, renamed, live, group, merged, noted, bett
 use Rattle.laws.specs.Bools.{cases_eq, on_most}
 use Rattle.laws.specs.Choose.{size_most}
 use Rattle.laws.specs.Lists.{get_or-laid_new, get_or-listed, length-listed}
-use Rattle.laws.specs.Rows.{back-links}
+use Rattle.laws.specs.Rows.{back-links, cut-links}
 use Rattle.laws.specs.Order.{length-prefix}
 use Rattle.laws.specs.Accept.{links_most}
 use Rattle.laws.specs.Rounds.{moved}
 use Rattle.method.specs.Least.{Groups, Ends, accepted_ends, all_groups, last_of, before_of, round_groups, noted_value, t_below, p_below, p-t}
 use Rattle.sides.specs.Bits.{labelled}
 use Rattle.table.specs.Table.{cell, Holds, Ran, Ready, mark, Numbered}
+use Rattle.answers.specs.declared.Split.{Split as Parted}
 use Rattle.least.specs.declared.Last.{Last}
-use Rattle.least.specs.declared.Noted.{Noted}
-use Rattle.least.specs.Rounds.{Light, Folded, Relabelled, Opened, Grouped, Ended, Notes, After}
+use Rattle.least.specs.Rounds.{Light, Folded, Relabelled, Opened, Grouped, Ended, NotesYet, Notes, After}
 use Rattle.least.proofs.Merging.{folded_holds}
 
 -- the first: every node its own group
@@ -151,7 +152,7 @@ module _ {L : LinkList} {g : ℕ → ℕ} {n count : ℕ} {m label : List ℕ} (
     pub last_two : u ≡ t → ⊥
     last_two = p-t L all in_ends start start_below refl j g gs
 
-    pub regrouped : (m' label' : List ℕ) → Folded (min u t) (max u t) m m' → Relabelled n (min u t) (max u t) label label'
+    pub regrouped : (m' label' : List ℕ) → Folded (min u t) (max u t) m m' → Relabelled 128 (min u t) (max u t) label label'
         → Grouped L (merged g u t) n (suc j) m' label'
     regrouped m' label' fold re =
         record {
@@ -161,7 +162,7 @@ module _ {L : LinkList} {g : ℕ → ℕ} {n count : ℕ} {m label : List ℕ} (
               subst (λ k. Groups k all (suc j) (merged g u t)) s.nodes (round_groups L all in_ends start start_below refl j g gs);
           table = folded_holds (min u t) (max u t) (λ e. last_two (omega arith)) (omega (arith, last_inside, before_inside)) (omega (arith, last_inside, before_inside)) s.table fold;
           places = re.size ∙ s.places;
-          labels = λ v h. re.moves v h ∙ ap (moved (min u t) (max u t)) (s.labels v h);
+          labels = λ v h. re.moves v (omega (arith, few_nodes)) ∙ ap (moved (min u t) (max u t)) (s.labels v h);
         }
 
     module _ {l : Last} (end : Ended L start g j l) where
@@ -178,17 +179,18 @@ module _ {L : LinkList} {g : ℕ → ℕ} {n count : ℕ} {m label : List ℕ} (
       side_is : (v : ℕ) → v < n → labelled (take n label) l.last v ≡ group g t v
       side_is v h = rw (get_or-take n label v 0 h, s.labels v h, end.last_is)
 
-      pub after_round : {p : Split} {r r' : Noted} {m' label' : List ℕ}
-          → ((p q : Split) → Notes (length (take n label)) p r → l.value ≡ q.value
+      pub after_round : {p : Split} (r : Option Parted) {r' : Parted} {m' label' : List ℕ}
+          → ((p q : Split) → NotesYet (length (take n label)) p r → l.value ≡ q.value → l.value < mark
           → ((v : ℕ) → v < length (take n label) → labelled (take n label) l.last v ≡ q.side v) → Notes (length (take n label)) (better p q) r')
           → Folded (min l.before l.last) (max l.before l.last) m m'
-          → Relabelled n (min l.before l.last) (max l.before l.last) label label'
-          → Notes n p r → After L start g j n p m' label' r'
-      after_round {p} {r} {r'} {m'} {label'} note fold re notes =
+          → Relabelled 128 (min l.before l.last) (max l.before l.last) label label'
+          → NotesYet n p r → After L start g j n p m' label' r'
+      after_round {p} r {r'} {m'} {label'} note fold re notes =
           let size = labels_part in
+          let low : l.value < mark = omega (arith, end.value_is, cut-links L (group g t), links_most L s.accepted) in
           record {
             grouped = regrouped m' label' (rw (end.before_is, end.last_is) at fold) (rw (end.before_is, end.last_is) at re);
             notes =
                 subst (λ k. Notes k (better p (noted L g t)) r') size
-                (note p (noted L g t) (subst (λ k. Notes k p r) (sym size) notes) end.value_is (λ v h. side_is v (omega arith)));
+                (note p (noted L g t) (subst (λ k. NotesYet k p r) (sym size) notes) end.value_is low (λ v h. side_is v (omega arith)));
           }

@@ -1,89 +1,48 @@
--- What the two calls answer, case by case: each test is the next check of the definition, and a split that was found is that of the fields.
--- Any two answers that a promise allows are equal, since the paper's answer gives the case of the enum and its fields. Assumes nothing.
-use Prim.Native.Nat.{ℕ, ◌≤◌, ◌<◌}
-use mathlib.Core.Path.{◌≡◌, sym, ◌∙◌}
+-- What a checked list has, for the split, and the answer that a split makes of it. Any two answers that a promise allows are equal, since the
+-- paper's answer gives the case of the result and its fields. Assumes nothing.
+use Prim.Native.Nat.{ℕ, ◌≤◌}
+use mathlib.Core.Path.{◌≡◌, refl, sym, ◌∙◌}
 use mathlib.Core.Bool.{false}
-use mathlib.Core.List.{[], ◌∷◌}
 use native.Mathlib.Omega.{arith}
-use borrow.Author.Tests.{eq-eqb, ne_eqb, le-leb, lt-leb}
-use Rattle.meaning.specs.Numbers.{fine, Answer, done, refused}
-use Rattle.meaning.specs.Links.{Given, list_of, list_check, Accepted}
-use Rattle.meaning.specs.Calls.{least0, least_answer, fewer_answer}
-use Rattle.laws.specs.Accept.{Words, Even, check_fine, size_even, fine_accepted}
-use Rattle.answers.specs.Paper.{told_check, parted_paper}
+use lib.Dec.{eqb}
+use borrow.Author.Tests.{ne_eqb}
+use Rattle.std.specs.Prelude.{Result}
+use Rattle.meaning.specs.Numbers.{fine, when, done, answered, one_node}
+use Rattle.meaning.specs.Links.{Given, list_check}
+use Rattle.meaning.specs.Calls.{split_fields, least0, least_answer, fewer_answer}
+use Rattle.answers.specs.Paper.{parted_fields, parted_paper}
 use Rattle.answers.specs.Unique.{parted_unique}
-use Rattle.answers.specs.declared.Told.{Told}
-use Rattle.answers.specs.declared.Parted.{Parted}
-use Rattle.lists.proofs.Checks.{found_bad}
-use Rattle.least.specs.declared.Noted.{Noted}
+use Rattle.answers.specs.declared.Refusal.{Refusal}
+use Rattle.answers.specs.declared.Split.{Split}
+use Rattle.lists.proofs.Passed.{passed}
+use Rattle.table.specs.Table.{Rows}
 use Rattle.least.specs.Rounds.{Notes}
 
--- the paper's answer of a noted division
-abbrev fields : Noted → Answer
-fields r = done (r.value ∷ r.low ∷ r.high ∷ r.size ∷ [])
+module _ (g : Given) (passes : list_check g false ≡ fine) where
+  pub node_bounds : (1 ≤ g.n) × (g.n ≤ 128)
+  node_bounds = let p = passed g false passes in (p.some_node, p.few_nodes)
 
-module _ (g : Given) where
-  -- what a list that passes has, for the split
-  pub record Whole : Type 0 where
-    pub accepted : Accepted (list_of g)
-    pub even : Even g
-    pub many : 2 ≤ g.n
-
-  pub whole : list_check g false ≡ fine → Words g → (g.n ≡ 1 → ⊥) → Whole
-  whole passes words two =
-      let acc = fine_accepted g false words passes in
+  pub good_rows : Rows g.la g.lb g.lw
+  good_rows =
+      let p = passed g false passes in
       record {
-        accepted = acc;
-        even = size_even g (check_fine g false passes).size_good;
-        many = omega (arith, acc.some_node);
+        same_b = sym p.even.as_b;
+        same_w = sym p.even.as_w;
+        few = p.few_rows;
+        a_inside = λ r h. let row = p.rows r h in omega (arith, row.a_in, p.few_nodes);
+        b_inside = λ r h. let row = p.rows r h in omega (arith, row.b_in, p.few_nodes);
+        apart = λ r h. (p.rows r h).ends_apart;
       }
 
-  -- ---- least
-
-  pub least_refuses : (t : Told) {num at : ℕ} → told_check t ≡ list_check g false → t ≡ Told.Refused num at → refused num at ≡ least_answer g
-  least_refuses t found is = rw (found_bad t found is)
-
-  pub least_one : list_check g false ≡ fine → g.n ≡ 1 → refused 16 0 ≡ least_answer g
-  least_one passes one = rw (passes, eq-eqb g.n 1 one)
-
-  pub least_splits : {r : Noted} → list_check g false ≡ fine → (g.n ≡ 1 → ⊥) → Notes g.n (least0 g) r → fields r ≡ least_answer g
-  least_splits passes two s = rw (passes, ne_eqb g.n 1 two, s.value_is, s.low_is, s.high_is, s.size_is)
-
-  -- ---- fewer
-
-  module _ (k : ℕ) where
-    pub fewer_refuses : (t : Told) {num at : ℕ} → told_check t ≡ list_check g false → t ≡ Told.Refused num at → refused num at ≡ fewer_answer g k
-    fewer_refuses t found is = rw (found_bad t found is)
-
-    pub fewer_zero : list_check g false ≡ fine → k ≡ 0 → refused 15 0 ≡ fewer_answer g k
-    fewer_zero passes zero = rw (passes, eq-eqb k 0 zero)
-
-    pub fewer_one : list_check g false ≡ fine → (k ≡ 0 → ⊥) → g.n ≡ 1 → refused 16 0 ≡ fewer_answer g k
-    fewer_one passes some one = rw (passes, ne_eqb k 0 some, eq-eqb g.n 1 one)
-
-    pub fewer_none : {r : Noted} → list_check g false ≡ fine → (k ≡ 0 → ⊥) → (g.n ≡ 1 → ⊥) → Notes g.n (least0 g) r → k ≤ r.value
-        → refused 17 0 ≡ fewer_answer g k
-    fewer_none passes some two s above =
-        rw (passes, ne_eqb k 0 some, ne_eqb g.n 1 two, le-leb k (least0 g).value (omega (arith, s.value_is)))
-
-    pub fewer_splits : {r : Noted} → list_check g false ≡ fine → (k ≡ 0 → ⊥) → (g.n ≡ 1 → ⊥) → Notes g.n (least0 g) r → r.value < k
-        → fields r ≡ fewer_answer g k
-    fewer_splits passes some two s below =
-        rw (
-          passes,
-          ne_eqb k 0 some,
-          ne_eqb g.n 1 two,
-          lt-leb k (least0 g).value (omega (arith, s.value_is)),
-          s.value_is,
-          s.low_is,
-          s.high_is,
-          s.size_is,
-        )
+-- a split of two nodes or more is the answer after the checks of the list
+pub gives : (g : Given) {r : Split} → (g.n ≡ 1 → ⊥) → Notes g.n (least0 g) r
+    → done (parted_fields r) ≡ answered (when (eqb g.n 1) one_node 0) (split_fields g.n (least0 g))
+gives g two s = rw (ne_eqb g.n 1 two, s.value_is, s.low_is, s.high_is, s.size_is) refl
 
 -- ---- one answer for each input
 
-pub least_unique : (g : Given) (t u : Parted) → parted_paper t ≡ least_answer g → parted_paper u ≡ least_answer g → t ≡ u
+pub least_unique : (g : Given) (t u : Result Split Refusal) → parted_paper t ≡ least_answer g → parted_paper u ≡ least_answer g → t ≡ u
 least_unique g t u p q = parted_unique t u (p ∙ sym q)
 
-pub fewer_unique : (g : Given) (k : ℕ) (t u : Parted) → parted_paper t ≡ fewer_answer g k → parted_paper u ≡ fewer_answer g k → t ≡ u
+pub fewer_unique : (g : Given) (k : ℕ) (t u : Result Split Refusal) → parted_paper t ≡ fewer_answer g k → parted_paper u ≡ fewer_answer g k → t ≡ u
 fewer_unique g k t u p q = parted_unique t u (p ∙ sym q)

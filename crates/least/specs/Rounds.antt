@@ -1,6 +1,6 @@
 -- What the functions between the table and the two calls promise: folding two groups of the table into one, what a round finds, and the
 -- division noted so far. Groups are those of `meaning` and `method`: g gives each node the number of its group.
-use Rattle.std.specs.Prelude.{ℕ, suc, ◌+◌, ◌≤◌, ◌<◌, ◌≡◌, false, List, length, get_or, eqb}
+use Rattle.std.specs.Prelude.{ℕ, suc, ◌+◌, ◌≤◌, ◌<◌, ◌≡◌, false, List, Option, Some, None, length, get_or, eqb}
 use Rattle.meaning.specs.Sums.{on}
 use Rattle.meaning.specs.Links.{LinkList, Accepted}
 use Rattle.meaning.specs.Order.{all}
@@ -9,7 +9,7 @@ use Rattle.laws.specs.Rounds.{moved}
 use Rattle.method.specs.Least.{Groups, last_of, before_of}
 use Rattle.table.specs.Table.{cell_at, Holds, mark}
 use Rattle.least.specs.declared.Last.{Last}
-use Rattle.least.specs.declared.Noted.{Noted}
+use Rattle.answers.specs.declared.Split.{Split as Parted}
 
 -- ---- labels
 
@@ -29,15 +29,7 @@ pub record Relabelled (n keep gone : ℕ) (label label' : List ℕ) : Type 0 whe
 abbrev pub Light : List ℕ → Type 0
 Light m = (p q : ℕ) → p < 128 → q < 128 → cell_at m p q < 2147483648
 
--- in column c, the cell of row `gone` was added to that of row `keep` and cleared
-pub record CellFolded (keep gone c : ℕ) (m m' : List ℕ) : Type 0 where
-  pub size : length m' ≡ length m
-  pub added : cell_at m' keep c ≡ cell_at m keep c + cell_at m gone c
-  pub cleared : cell_at m' gone c ≡ 0
-  pub other_rows : (p q : ℕ) → p < 128 → q < 128 → (p ≡ keep → ⊥) → (p ≡ gone → ⊥) → cell_at m' p q ≡ cell_at m p q
-  pub other_columns : (p q : ℕ) → p < 128 → q < 128 → (q ≡ c → ⊥) → cell_at m' p q ≡ cell_at m p q
-
--- the same in the first c columns
+-- in the first c columns, row `gone` was added to row `keep` and cleared
 pub record RowFolded (keep gone c : ℕ) (m m' : List ℕ) : Type 0 where
   pub size : length m' ≡ length m
   pub added : (q : ℕ) → q < c → cell_at m' keep q ≡ cell_at m keep q + cell_at m gone q
@@ -45,15 +37,7 @@ pub record RowFolded (keep gone c : ℕ) (m m' : List ℕ) : Type 0 where
   pub other_rows : (p q : ℕ) → p < 128 → q < 128 → (p ≡ keep → ⊥) → (p ≡ gone → ⊥) → cell_at m' p q ≡ cell_at m p q
   pub other_columns : (p q : ℕ) → p < 128 → q < 128 → c ≤ q → cell_at m' p q ≡ cell_at m p q
 
--- in row r, column `keep` was copied from row `keep`, and column `gone` cleared
-pub record NodeFolded (keep gone r : ℕ) (m m' : List ℕ) : Type 0 where
-  pub size : length m' ≡ length m
-  pub copied : cell_at m' r keep ≡ cell_at m keep r
-  pub cleared : cell_at m' r gone ≡ 0
-  pub other_columns : (p q : ℕ) → p < 128 → q < 128 → (q ≡ keep → ⊥) → (q ≡ gone → ⊥) → cell_at m' p q ≡ cell_at m p q
-  pub other_rows : (p q : ℕ) → p < 128 → q < 128 → (p ≡ r → ⊥) → cell_at m' p q ≡ cell_at m p q
-
--- the same in the first r rows
+-- in the first r rows, column `keep` was copied from row `keep`, and column `gone` cleared
 pub record ColumnFolded (keep gone r : ℕ) (m m' : List ℕ) : Type 0 where
   pub size : length m' ≡ length m
   pub copied : (p : ℕ) → p < r → cell_at m' p keep ≡ cell_at m keep p
@@ -90,17 +74,21 @@ pub record Ended (L : LinkList) (s : ℕ) (g : ℕ → ℕ) (j : ℕ) (r : Last)
   pub value_is : r.value ≡ cut L (group g (last_of L s g j))
 
 -- r is the division p of n nodes, by its value, its side's words and its size
-pub record Notes (n : ℕ) (p : Split) (r : Noted) : Type 0 where
+pub record Notes (n : ℕ) (p : Split) (r : Parted) : Type 0 where
   pub value_is : r.value ≡ p.value
-  pub low_is : r.low ≡ word n p.side 0
-  pub high_is : r.high ≡ word n p.side 1
-  pub size_is : r.size ≡ size_of n p.side
+  pub low_is : r.side.low ≡ word n p.side 0
+  pub high_is : r.side.high ≡ word n p.side 1
+  pub size_is : r.side.size ≡ size_of n p.side
 
--- before the first round a value above all is noted, of an empty side
+-- before the first round nothing is noted, which counts as a value above all, of an empty side
 abbrev pub above : Split
 above = record { value = mark; side = λ v. false }
 
+abbrev pub NotesYet : ℕ → Split → Option Parted → Type 0
+NotesYet n p None = p ≡ above
+NotesYet n p (Some r) = Notes n p r
+
 -- what a round with j + 2 groups leaves: one group less, and the better division noted
-pub record After (L : LinkList) (s : ℕ) (g : ℕ → ℕ) (j n : ℕ) (p : Split) (m label : List ℕ) (r : Noted) : Type 0 where
+pub record After (L : LinkList) (s : ℕ) (g : ℕ → ℕ) (j n : ℕ) (p : Split) (m label : List ℕ) (r : Parted) : Type 0 where
   pub grouped : Grouped L (merged g (before_of L s g j) (last_of L s g j)) n (suc j) m label
   pub notes : Notes n (better p (noted L g (last_of L s g j))) r

@@ -2,85 +2,74 @@
 // Proved safe and ending; what it prints is held to the file `stdout`.
 #![tactic(auto)]
 
-ghost use Rattle.std.specs.Prelude.{◌≡◌, ◌<◌, ◌≤◌, length};
+ghost use Rattle.std.specs.Prelude.{◌≤◌, length};
 
-use answers::{Found, Totals};
-use std::io;
+use answers::Refusal;
+use lists::{Columns, Links};
+use std::{array, io};
 
-// Prints `what: number at place`.
-fn line(rt: &impl Print, what: &str, number: u32, place: usize) -> io::Result<()> {
-    println!(rt; "{what}: {number} at {place}")
-}
+// The most rows of a list, and one more.
+const ROWS: usize = 2049;
 
-fn print_totals(rt: &impl Print, what: &str, t: Totals) -> io::Result<()> {
-    match t {
-        Totals::Summary(_, _, _, _) => line(rt, what, 0, 0),
-        Totals::Refused(number, place) => line(rt, what, number, place),
-    }
-}
-
-fn print_found(rt: &impl Print, what: &str, f: Found) -> io::Result<()> {
-    match f {
-        Found::Rows(_, _) => line(rt, what, 0, 0),
-        Found::Refused(number, place) => line(rt, what, number, place),
+// Prints `what: number at place`, as the table has them: 0 at 0 where the call does not refuse.
+fn print<T: Drop>(rt: &impl Print, what: &str, answer: Result<T, Refusal>) -> io::Result<()> {
+    match answer {
+        Ok(_) => println!(rt; "{what}: 0 at 0"),
+        Err(refusal) => println!(rt; "{what}: {refusal}"),
     }
 }
 
 // One end of each row around a ring of 128 nodes, again and again: the node `ahead` places on.
-fn ring(ahead: usize) -> [u16; 2049]
-    requires { ahead < 128 }
-    ensures { 2049 ≡ length result }
+fn ring(ahead: u8) -> [u16; ROWS] {
+    array::from_fn(|i| ((i + usize::from(ahead)) % 128) as u16)
+}
+
+// The summary of a list's first rows, as of a list with n nodes.
+fn print_rows(rt: &impl Print, what: &str, all: &Links<'_>, n: u32, rows: usize) -> io::Result<()>
+    requires { (rows ≤ length all.now.a.now) × (rows ≤ length all.now.b.now) × (rows ≤ length all.now.w.now) }
 {
-    let mut ends = [0u16; 2049];
-    let mut i: usize = 0;
-    while i < 2049 {
-        ends[i] = ((i + ahead) % 128) as u16;
-        i += 1;
-    }
-    ends
+    let list = Links {
+        n,
+        a: &all.a[..rows],
+        b: &all.b[..rows],
+        w: &all.w[..rows],
+    };
+    print(rt, what, summary::summary(&list))
 }
 
 // Reads a file whose answer is known by its place in the document.
-fn read_line(rt: &impl Print, what: &str, s: &[u8]) -> io::Result<()> {
+fn print_read(rt: &impl Print, what: &str, s: &[u8]) -> io::Result<()> {
     let mut a = [0u16; 4];
     let mut b = [0u16; 4];
     let mut w = [0u16; 4];
-    print_found(rt, what, read::read(s, &mut a, &mut b, &mut w))
-}
-
-// The answer on the first rows of three lists.
-fn first_rows(
-    rt: &impl Print,
-    what: &str,
-    n: u32,
-    rows: usize,
-    a: &[u16],
-    b: &[u16],
-    w: &[u16],
-) -> io::Result<()>
-    requires { (rows ≤ length a.now) × (rows ≤ length b.now) × (rows ≤ length w.now) }
-{
-    print_totals(
-        rt,
-        what,
-        summary::summary(n, &a[..rows], &b[..rows], &w[..rows]),
-    )
+    let mut out = Columns {
+        a: &mut a,
+        b: &mut b,
+        w: &mut w,
+    };
+    print(rt, what, read::read(s, &mut out))
 }
 
 fn main(rt: HostRuntime) -> io::Result<()> {
     let a = ring(0);
     let b = ring(1);
-    let w = [1u16; 2049];
-    first_rows(&rt, "128 nodes, 2048 rows", 128, 2048, &a, &b, &w)?;
-    first_rows(&rt, "129 nodes, 2048 rows", 129, 2048, &a, &b, &w)?;
-    first_rows(&rt, "128 nodes, 2049 rows", 128, 2049, &a, &b, &w)?;
-    read_line(&rt, "a file of 7 bytes", &[0, 0, 0, 0, 0, 0x4C, 0x54])?;
-    read_line(
+    let w = [1u16; ROWS];
+    let all = Links {
+        n: 128,
+        a: &a,
+        b: &b,
+        w: &w,
+    };
+    print_rows(&rt, "128 nodes, 2048 rows", &all, 128, 2048)?;
+    print_rows(&rt, "129 nodes, 2048 rows", &all, 129, 2048)?;
+    print_rows(&rt, "128 nodes, 2049 rows", &all, 128, 2049)?;
+    print_read(&rt, "a file of 7 bytes", &[0, 0, 0, 0, 0, 0x4C, 0x54])?;
+    print_read(
         &rt,
         "start at the trailer",
         &[4, 1, 2, 0, 4, 0, 0, 0, 0, 0, 0x4C, 0x54],
     )?;
-    read_line(
+    print_read(
         &rt,
         "start one past it",
         &[4, 1, 2, 0, 5, 0, 0, 0, 0, 0, 0x4C, 0x54],

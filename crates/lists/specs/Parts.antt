@@ -24,3 +24,7 @@ sum_check sum = when (ltb 4294967295 sum) over_sum 0
 -- what is left after the counts: the rows, then 18
 abbrev pub rest_check : LinkList → Check
 rest_check L = rows_check L L.rows ⟫ sum_check (links L)
+
+-- one of three lent lists has no place for each row
+abbrev pub any_short : ℕ → ℕ → ℕ → ℕ → Bool
+any_short rows ra rb rw = ltb ra rows || ltb rb rows || ltb rw rows

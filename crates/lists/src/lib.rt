@@ -1,103 +1,165 @@
-// The checks that every call makes of the list it is given, in document 01's order: 9, 10, 14, then row by row 11, 12, 13, then 18.
-// `check` promises for every input what `list_check` of `meaning` finds; each call says by `short` whether a lent output is too short.
-// Its three parts are there for the reader, which judges rows before they stand in a list: so each of these numbers is made in one place.
+// The list of links that every call is given, and the checks that every call makes of it, in document 01's order: 9, 10, 14, then row by
+// row 11, 12, 13, then 18. `Links` is the list as the caller hands it over; its `check` promises for every input what `list_check` of
+// `meaning` finds, and hands out a `Checked` list, so that what goes on with a list cannot be given one that was not checked.
+// The three parts are there for the reader, which judges rows before they stand in a list: so each of these numbers is made in one place.
 // What an accepted list has, for the calls that go on with one, is in `proofs/Passed.antt`.
 #![tactic(auto)]
 
-ghost use Rattle.std.specs.Prelude.{◌≡◌, ◌<◌, ◌≤◌, length};
-ghost use Rattle.meaning.specs.Numbers.{◌⟫◌};
-ghost use Rattle.meaning.specs.Links.{given, list_of, row_check, list_check};
+ghost use Rattle.std.specs.Prelude.{◌≡◌, ℕ, false, ◌<◌, ◌≤◌, length, get_or, IfOk};
+ghost use Rattle.meaning.specs.Numbers.{fine, ◌⟫◌};
+ghost use Rattle.meaning.specs.Links.{Given, given, list_of, row_check, list_check};
+ghost use Rattle.laws.specs.Accept.{Even, Words};
 ghost use Rattle.answers.specs.Paper.{told_check};
 ghost use Rattle.lists.specs.Parts.{size_check, row_numbers, sum_check, rest_check};
 
-use answers::Told;
+use answers::Refusal;
 
-// The most that the weights may add up to.
+// The most nodes and rows that a list may have, and the most that its weights may add up to.
+pub const NODES: usize = 128;
+
+pub const ROWS: usize = 2048;
+
 const MOST_LINKS: u64 = 4294967295;
 
-// ---- the parts
+// ---- lists
+
+// A row: its two ends and its weight.
+#[derive(Clone, Copy, PartialEq, Eq)]
+pub struct Row {
+    pub a: u16,
+    pub b: u16,
+    pub w: u16,
+}
+
+// A list as a caller hands it over: n, and the two ends and the weight of each row, in three lists.
+#[derive(Clone, Copy)]
+pub struct Links<'a> {
+    pub n: u32,
+    pub a: &'a [u16],
+    pub b: &'a [u16],
+    pub w: &'a [u16],
+}
+
+// A list that passed its checks. That its weights are 16-bit numbers stands here too, since a proof knows it of a lent list and not of one in a struct.
+#[derive(Clone, Copy)]
+pub struct Checked<'a> {
+    pub links: Links<'a>,
+    pub ghost passed: { list_check (given links.n links.a.now links.b.now links.w.now) false ≡ fine },
+    pub ghost words: { Words (given links.n links.a.now links.b.now links.w.now) },
+}
+
+// Three lent lists, into which rows are written.
+#[derive(Drop)]
+pub struct Columns<'a> {
+    pub a: &'a mut [u16],
+    pub b: &'a mut [u16],
+    pub w: &'a mut [u16],
+}
+
+// ---- the parts of the checks
 
 // The counts: n, the rows, and whether a lent output is too short.
-pub fn size_check(n: u32, rows: usize, uneven: bool, short: bool) -> Told
+pub fn size_check(n: u32, rows: usize, uneven: bool, short: bool) -> Result<(), Refusal>
     ensures { told_check result ≡ size_check n rows uneven short }
 {
-    if n == 0 || 128 < n {
-        return Told::Refused(answers::NODE_COUNT, 0);
+    if n == 0 || NODES < n as usize {
+        return Err(Refusal::NodeCount);
     }
-    if uneven || 2048 < rows {
-        return Told::Refused(answers::LIST_SIZE, 0);
+    if uneven || ROWS < rows {
+        return Err(Refusal::ListSize);
     }
     if short {
-        return Told::Refused(answers::SHORT_ROOM, 0);
+        return Err(Refusal::ShortRoom);
     }
-    Told::Done
+    Ok(())
 }
 
 // Row r: an end that is n or more, equal ends, no weight.
-pub fn row_check(n: u32, r: usize, a: u16, b: u16, w: u16) -> Told
-    ensures { told_check result ≡ row_numbers n r a b w }
+pub fn row_check(n: u32, r: usize, row: Row) -> Result<(), Refusal>
+    ensures { told_check result ≡ row_numbers n r row.a row.b row.w }
 {
-    if n <= a as u32 || n <= b as u32 {
-        return Told::Refused(answers::END_OUTSIDE, r);
+    if n <= u32::from(row.a) || n <= u32::from(row.b) {
+        return Err(Refusal::EndOutside(r));
     }
-    if a == b {
-        return Told::Refused(answers::ENDS_EQUAL, r);
+    if row.a == row.b {
+        return Err(Refusal::EndsEqual(r));
     }
-    if w == 0 {
-        return Told::Refused(answers::NO_WEIGHT, r);
+    if row.w == 0 {
+        return Err(Refusal::NoWeight(r));
     }
-    Told::Done
+    Ok(())
 }
 
 // The sum of the weights, where the rows found nothing.
-pub fn sum_check(told: Told, sum: u64) -> Told
+pub fn sum_check(told: Result<(), Refusal>, sum: u64) -> Result<(), Refusal>
     ensures { told_check result ≡ told_check told ⟫ sum_check sum }
 {
-    let Told::Done = told else {
-        return told;
-    };
+    told?;
     if MOST_LINKS < sum {
-        return Told::Refused(answers::OVER_SUM, 0);
+        return Err(Refusal::OverSum);
     }
-    Told::Done
+    Ok(())
 }
 
-// ---- a list
+// ---- the check of a list
 
-// Row r of three lists.
-fn row(n: u32, a: &[u16], b: &[u16], w: &[u16], r: usize) -> Told
-    requires { (r < length a.now) × ((r < length b.now) × (r < length w.now)) }
-    ensures { told_check result ≡ row_check (list_of (given n a.now b.now w.now)) r }
-{
-    row_check(n, r, a[r], b[r], w[r])
-}
+// What the type of the weights says, for the proof of `check`: nothing runs.
+fn words(w: &[u16])
+    ensures { (r : ℕ) → r < length w.now → get_or w.now r 0 ≤ 65535 }
+{}
 
-// The rows of lists of one length, and the sum of their weights, in one pass.
-fn rows(n: u32, a: &[u16], b: &[u16], w: &[u16]) -> Told
-    requires { (length a.now ≡ length b.now) × ((length a.now ≡ length w.now) × (length a.now ≤ 2048)) }
-    ensures { told_check result ≡ rest_check (list_of (given n a.now b.now w.now)) }
-{
-    let mut total: u64 = 0;
-    let mut r = 0;
-    while r < a.len() {
-        let told = row(n, a, b, w, r);
-        let Told::Done = told else {
-            return told;
-        };
-        total += w[r] as u64;
-        r += 1;
+impl<'a> Links<'a> {
+    ghost use Rattle.lists.specs.Given.{given_by, list_by};
+
+    // The rows of lists of one length, and the sum of their weights, in one pass.
+    fn check_rows(&self) -> Result<(), Refusal>
+        requires { Even (given_by self.now) × (length self.now.a.now ≤ 2048) }
+        ensures { told_check result ≡ rest_check (list_by self.now) }
+    {
+        let Links { n, a, b, w } = *self;
+        let mut total: u64 = 0;
+        for r in 0..a.len() {
+            let row = Row {
+                a: a[r],
+                b: b[r],
+                w: w[r],
+            };
+            row_check(n, r, row)?;
+            total += u64::from(row.w);
+        }
+        sum_check(Ok(()), total)
     }
-    sum_check(Told::Done, total)
+
+    // The checks of a list, for a call whose lent outputs are too short where `short` says so.
+    pub fn check(&self, short: bool) -> Result<Checked<'a>, Refusal>
+        ensures found { told_check result ≡ list_check (given_by self.now) short }
+        ensures same { IfOk result (λ c. c.links ≡ self.now) }
+    {
+        let Links { n, a, b, w } = *self;
+        let uneven = (a.len() != b.len()) | (a.len() != w.len());
+        size_check(n, a.len(), uneven, short)?;
+        self.check_rows()?;
+        words(w);
+        Ok(Checked { links: *self })
+    }
 }
 
-// The checks of a list, for a call whose lent outputs are too short where `short` says so.
-pub fn check(n: u32, a: &[u16], b: &[u16], w: &[u16], short: bool) -> Told
-    ensures { told_check result ≡ list_check (given n a.now b.now w.now) short }
-{
-    let uneven = (a.len() != b.len()) | (a.len() != w.len());
-    let sized = size_check(n, a.len(), uneven, short);
-    let Told::Done = sized else {
-        return sized;
-    };
-    rows(n, a, b, w)
+impl<'a> Checked<'a> {
+    // Its nodes, as a number of places.
+    pub fn nodes(&self) -> usize
+        ensures { result ≡ self.now.links.n }
+    {
+        self.links.n as usize
+    }
+}
+
+impl<'a> Columns<'a> {
+    ghost use Rattle.lists.specs.Parts.{any_short};
+
+    // Whether one of the three has no place for each of so many rows.
+    pub fn lack(&self, rows: usize) -> bool
+        ensures { result ≡ any_short rows (length self.now.a.now) (length self.now.b.now) (length self.now.w.now) }
+    {
+        self.a.len() < rows || self.b.len() < rows || self.w.len() < rows
+    }
 }

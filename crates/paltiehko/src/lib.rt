@@ -3,76 +3,84 @@
 // order, then zeros. Each promises for every input what `meaning` says of its call, with the answer as `laid_out` lays it.
 #![tactic(auto)]
 
-ghost use Rattle.std.specs.Prelude.{◌≡◌};
-ghost use Rattle.meaning.specs.Numbers.{refused};
+ghost use Rattle.std.specs.Prelude.{◌≡◌, ℕ, List, [], ◌∷◌};
 ghost use Rattle.meaning.specs.Links.{given};
 ghost use Rattle.meaning.specs.Calls.{least_answer, fewer_answer, summary_answer};
-ghost use Rattle.answers.specs.Paper.{told_paper, wrote_paper, found_paper, parted_paper, totals_paper};
-ghost use Rattle.paltiehko.specs.Layout.{laid_out};
+ghost use Rattle.answers.specs.Paper.{paper, found_fields, parted_fields, totals_fields};
+ghost use Rattle.paltiehko.specs.Layout.{laid_out, fields_laid};
 ghost use Rattle.paltiehko.specs.Leaves.{Reading, Writing, Reporting, Ordering, Numbering, Keeping, Shortening};
 
-use answers::{Found, Parted, Told, Totals, Wrote};
+use answers::{Found, Refusal, Side, Split, Totals};
+use lists::{Columns, Links};
 
 // ---- answers laid out
 
-fn refusal(num: u32, at: usize) -> [u64; 8]
-    ensures { result ≡ laid_out (refused num at) }
-{
-    [num as u64, at as u64, 0, 0, 0, 0, 0, 0]
+// What a call answers where it does not refuse: its fields on paper, and in the six places after number and place.
+trait Fields {
+    ghost fields: { Self → List ℕ };
+
+    fn laid(self) -> [u64; 6]
+        ensures { result ≡ fields_laid (fields self) };
 }
 
-fn told(t: Told) -> [u64; 8]
-    ensures { result ≡ laid_out (told_paper t) }
-{
-    match t {
-        Told::Done => [0; 8],
-        Told::Refused(num, at) => refusal(num, at),
+impl Fields for () {
+    ghost fields = { λ _. [] };
+
+    fn laid(self) -> [u64; 6] {
+        [0; 6]
     }
 }
 
-fn wrote(t: Wrote) -> [u64; 8]
-    ensures { result ≡ laid_out (wrote_paper t) }
-{
-    match t {
-        Wrote::Many(count) => [0, 0, count as u64, 0, 0, 0, 0, 0],
-        Wrote::Refused(num, at) => refusal(num, at),
+// A number of bytes or of rows.
+impl Fields for usize {
+    ghost fields = { λ m. m ∷ [] };
+
+    fn laid(self) -> [u64; 6] {
+        [self as u64, 0, 0, 0, 0, 0]
     }
 }
 
-fn found(t: Found) -> [u64; 8]
-    ensures { result ≡ laid_out (found_paper t) }
-{
-    match t {
-        Found::Rows(n, rows) => [0, 0, n as u64, rows as u64, 0, 0, 0, 0],
-        Found::Refused(num, at) => refusal(num, at),
+impl Fields for Found {
+    ghost fields = { found_fields };
+
+    fn laid(self) -> [u64; 6] {
+        [u64::from(self.n), self.rows as u64, 0, 0, 0, 0]
     }
 }
 
-fn parted(t: Parted) -> [u64; 8]
-    ensures { result ≡ laid_out (parted_paper t) }
-{
-    match t {
-        Parted::Split(value, low, high, size) => [0, 0, value as u64, low, high, size as u64, 0, 0],
-        Parted::Refused(num, at) => refusal(num, at),
+impl Fields for Split {
+    ghost fields = { parted_fields };
+
+    fn laid(self) -> [u64; 6] {
+        let Side { low, high, size } = self.side;
+        [u64::from(self.value), low, high, u64::from(size), 0, 0]
     }
 }
 
-fn totals(t: Totals) -> [u64; 8]
-    ensures { result ≡ laid_out (totals_paper t) }
-{
-    match t {
-        Totals::Summary(n, rows, links, pairs) => [
+impl Fields for Totals {
+    ghost fields = { totals_fields };
+
+    fn laid(self) -> [u64; 6] {
+        [
+            u64::from(self.n),
+            self.rows as u64,
+            u64::from(self.links),
+            u64::from(self.pairs),
             0,
             0,
-            n as u64,
-            rows as u64,
-            links as u64,
-            pairs as u64,
-            0,
-            0,
-        ],
-        Totals::Refused(num, at) => refusal(num, at),
+        ]
     }
+}
+
+// An answer in its eight places.
+fn laid_out<T: Fields>(answer: Result<T, Refusal>) -> [u64; 8]
+    ensures { result ≡ laid_out (paper T.fields answer) }
+{
+    let (number, place, [a, b, c, d, e, f]) = match answer {
+        Ok(x) => (0, 0, x.laid()),
+        Err(refusal) => (refusal.number(), refusal.place(), [0; 6]),
+    };
+    [u64::from(number), place as u64, a, b, c, d, e, f]
 }
 
 // ---- calls
@@ -88,7 +96,7 @@ pub extern "C" fn paltiehko_read(
     ensures { Reading src.now a.old b.old w.old
         answer.new a.new b.new w.new }
 {
-    *answer = found(read::read(src, a, b, w));
+    *answer = laid_out(read::read(src, &mut Columns { a, b, w }));
 }
 
 #[unsafe(no_mangle)]
@@ -103,7 +111,7 @@ pub extern "C" fn paltiehko_write(
     ensures { Writing (given n a.now b.now w.now) out.old
         answer.new out.new }
 {
-    *answer = wrote(write::write(n, a, b, w, out));
+    *answer = laid_out(write::write(&Links { n, a, b, w }, out));
 }
 
 #[unsafe(no_mangle)]
@@ -119,7 +127,7 @@ pub extern "C" fn paltiehko_order(
     ensures { Ordering (given n a.now b.now w.now) order.old back.old
         answer.new order.new back.new }
 {
-    *answer = told(order::order(n, a, b, w, order, back));
+    *answer = laid_out(order::order(&Links { n, a, b, w }, order, back));
 }
 
 #[unsafe(no_mangle)]
@@ -134,7 +142,7 @@ pub extern "C" fn paltiehko_forest(
     ensures { Numbering (given n a.now b.now w.now) first.old
         answer.new first.new }
 {
-    *answer = told(forest::forest(n, a, b, w, first));
+    *answer = laid_out(forest::forest(&Links { n, a, b, w }, first));
 }
 
 #[unsafe(no_mangle)]
@@ -150,7 +158,7 @@ pub extern "C" fn paltiehko_kept(
     ensures { Keeping (given n a.now b.now w.now) k kept.old
         answer.new kept.new }
 {
-    *answer = told(thin::kept(n, a, b, w, k, kept));
+    *answer = laid_out(thin::kept(&Links { n, a, b, w }, k, kept));
 }
 
 #[unsafe(no_mangle)]
@@ -168,14 +176,22 @@ pub extern "C" fn paltiehko_short(
     ensures { Shortening (given n a.now b.now w.now) k a2.old b2.old w2.old
         answer.new a2.new b2.new w2.new }
 {
-    *answer = wrote(thin::short(n, a, b, w, k, a2, b2, w2));
+    *answer = laid_out(thin::short(
+        &Links { n, a, b, w },
+        k,
+        &mut Columns {
+            a: a2,
+            b: b2,
+            w: w2,
+        },
+    ));
 }
 
 #[unsafe(no_mangle)]
 pub extern "C" fn paltiehko_least(n: u32, a: &[u16], b: &[u16], w: &[u16], answer: &mut [u64; 8])
     ensures { answer.new ≡ laid_out (least_answer (given n a.now b.now w.now)) }
 {
-    *answer = parted(least::least(n, a, b, w));
+    *answer = laid_out(least::least(&Links { n, a, b, w }));
 }
 
 #[unsafe(no_mangle)]
@@ -189,19 +205,19 @@ pub extern "C" fn paltiehko_fewer(
 )
     ensures { answer.new ≡ laid_out (fewer_answer (given n a.now b.now w.now) k) }
 {
-    *answer = parted(least::fewer(n, a, b, w, k));
+    *answer = laid_out(least::fewer(&Links { n, a, b, w }, k));
 }
 
 #[unsafe(no_mangle)]
 pub extern "C" fn paltiehko_summary(n: u32, a: &[u16], b: &[u16], w: &[u16], answer: &mut [u64; 8])
     ensures { answer.new ≡ laid_out (summary_answer (given n a.now b.now w.now)) }
 {
-    *answer = totals(summary::summary(n, a, b, w));
+    *answer = laid_out(summary::summary(&Links { n, a, b, w }));
 }
 
 #[unsafe(no_mangle)]
 pub extern "C" fn paltiehko_report(src: &[u8], out: &mut [u8], answer: &mut [u64; 8])
     ensures { Reporting src.now out.old answer.new out.new }
 {
-    *answer = wrote(reporting::report(src, out));
+    *answer = laid_out(reporting::report(src, out));
 }

@@ -9,8 +9,6 @@ use lib.ListN.{get_or}
 use lib.Dec.{eqb, ltb, leb}
 use borrow.Author.Tests.{ltb-false, leb-true, eqb-true}
 use Rattle.meaning.specs.File.{get16, Row, Item, broken, nodes_item, row_item, skipped, item_at}
-use Rattle.read.specs.declared.Item as Code
-use Rattle.read.specs.Scan.{item_paper}
 
 -- a record that is not wrong: its length, the offset after it, and that it ends within the end
 pub record Whole (s : List ℕ) (end at to : ℕ) : Type 0 where
@@ -19,25 +17,24 @@ pub record Whole (s : List ℕ) (end at to : ℕ) : Type 0 where
   pub within : to ≤ end
 
 -- a row's record
-pub record IsRow (s : List ℕ) (at : ℕ) (seen : Bool) (r : Row) : Type 0 where
+pub record IsRow (s : List ℕ) (at : ℕ) (r : Row) : Type 0 where
   pub kind : get_or s (at + 1) 0 ≡ 2
   pub eight : get_or s at 0 ≡ 8
-  pub after_nodes : seen ≡ true
   pub numbers : r ≡ record { a = get16 s (at + 2); b = get16 s (at + 4); w = get16 s (at + 6) }
 
-abbrev pub Sound : List ℕ → ℕ → ℕ → Bool → Item → Type 0
-Sound s end at seen (broken num place) = Unit
-Sound s end at seen (nodes_item n to) = Whole s end at to × ((get_or s (at + 1) 0 ≡ 2 → ⊥) × (seen ≡ false))
-Sound s end at seen (row_item r to) = Whole s end at to × IsRow s at seen r
-Sound s end at seen (skipped to) = Whole s end at to × (get_or s (at + 1) 0 ≡ 2 → ⊥)
+abbrev pub Sound : List ℕ → ℕ → ℕ → Item → Type 0
+Sound s end at (broken num place) = Unit
+Sound s end at (nodes_item n to) = Whole s end at to × (get_or s (at + 1) 0 ≡ 2 → ⊥)
+Sound s end at (row_item r to) = Whole s end at to × IsRow s at r
+Sound s end at (skipped to) = Whole s end at to × (get_or s (at + 1) 0 ≡ 2 → ⊥)
 
 module _ (s : List ℕ) (end at : ℕ) (seen : Bool) where
   -- a case that a test picks
-  picked : (t : Bool) (x y : Item) → (t ≡ true → Sound s end at seen x) → (t ≡ false → Sound s end at seen y) → Sound s end at seen (cond t x y)
+  picked : (t : Bool) (x y : Item) → (t ≡ true → Sound s end at x) → (t ≡ false → Sound s end at y) → Sound s end at (cond t x y)
   picked true x y holds fails = holds refl
   picked false x y holds fails = fails refl
 
-  pub sound : Sound s end at seen (item_at s end at seen)
+  pub sound : Sound s end at (item_at s end at seen)
   unfolding item_at
   sound =
       let len = get_or s at 0 in
@@ -48,18 +45,14 @@ module _ (s : List ℕ) (end at : ℕ) (seen : Bool) where
       picked (leb 128 kind) _ _ (λ high. (whole, λ two. omega (arith, leb-true 128 kind high))) (λ _.
       picked (eqb kind 1) _ _
       (λ one.
-      picked (eqb len 4) _ _ (λ _. picked seen _ _ (λ _. tt) (λ fresh. (whole, (λ two. omega (arith, eqb-true kind 1 one), fresh)))) (λ _. tt))
+      picked (eqb len 4) _ _ (λ _. picked seen _ _ (λ _. tt) (λ _. (whole, λ two. omega (arith, eqb-true kind 1 one)))) (λ _. tt))
       (λ _.
       picked (eqb kind 2) _ _
       (λ two.
       picked (eqb len 8) _ _
       (λ eight.
       picked seen _ _
-      (λ came. (whole, record { kind = eqb-true kind 2 two; eight = eqb-true len 8 eight; after_nodes = came; numbers = refl }))
+      (λ _. (whole, record { kind = eqb-true kind 2 two; eight = eqb-true len 8 eight; numbers = refl }))
       (λ _. tt))
       (λ _. tt))
       (λ _. tt)))))
-
-  -- the same of the code's value
-  pub item_sound : (i : Code.Item) → item_paper i ≡ item_at s end at seen → Sound s end at seen (item_paper i)
-  item_sound i e = rw e sound

@@ -1,4 +1,5 @@
 pub mod Items
 pub mod State
-pub mod Outcome
 pub mod Filling
+pub mod Trailer
+pub mod Outcome

@@ -1,39 +1,35 @@
--- The judging pass. After each record the state is `scan_of` of what `run_from` has found so far: a row adds its own check after those of the rows before it,
+-- The judging pass. After each record the state is `tally_of` of what `run_from` has found so far: a row adds its own check after those of the rows before it,
 -- and its weight to their sum, and the kind 1 record comes before every row. So at the end of the run, and at a wrong record, the code holds what `judged` says.
 use Prim.Native.Nat.{ℕ, zero, suc, ◌+◌, ◌≤◌, ◌<◌}
 use mathlib.Core.Path.{◌≡◌, refl, sym, ap, ◌∙◌}
-use mathlib.Core.Bool.{true, false}
+use mathlib.Core.Bool.{Bool, true, false, cond}
 use mathlib.Core.List.{List, [], ◌∷◌, ◌++◌, map, map-append}
 use native.Mathlib.Omega.{arith}
 use native.Mathlib.Numerals.{add-one}
 use lib.ListN.{length, get_or, length-append, length-map, get_or-append}
 use lib.Seq.{get_or_at}
 use borrow.Author.Tests.{lt-ltb, le-ltb}
+use Rattle.std.specs.Prelude.{Some, None, Result, Ok, Err}
+use Rattle.std.proofs.Common.{IsErrAnd}
 use Rattle.meaning.specs.Sums.{sum}
-use Rattle.meaning.specs.Numbers.{Check, fine, bad, ◌⟫◌}
+use Rattle.meaning.specs.Numbers.{fine, bad, ◌⟫◌}
 use Rattle.meaning.specs.Links.{LinkList, list_of, links, row_check, rows_check}
-use Rattle.meaning.specs.File.{Row, Item, broken, nodes_item, row_item, skipped, item_at, Found, Run, ran, stopped, follow, run_from, nothing, rows_given}
+use Rattle.meaning.specs.File.{Row, broken, item_at, Found, Run, ran, stopped, follow, run_from, nothing, rows_given}
 use Rattle.laws.specs.Bools.{true-false}
 use Rattle.laws.specs.Sums.{sum-suc, sum_ext}
 use Rattle.laws.specs.Accept.{rows_check-suc}
-use Rattle.answers.specs.declared.Told.{Told}
-use Rattle.answers.specs.Paper.{told_check}
-use Rattle.read.specs.declared.Scan.{Scan}
-use Rattle.read.specs.declared.Step.{Step}
-use Rattle.read.specs.declared.Run as Code
-use Rattle.read.specs.Scan.{told, scan_of, scan_nodes, scan_row, step_of, judged}
+use Rattle.answers.specs.declared.Refusal.{Refusal}
+use Rattle.answers.specs.Paper.{number_of, place_of}
 use Rattle.lists.specs.Parts.{row_numbers}
-use Rattle.read.proofs.Items.{Sound, sound}
+use Rattle.read.specs.declared.Item as Code
+use Rattle.read.specs.Scan as Scan
+use Rattle.read.specs.Scan.{item_paper, placed, Tally, tally_of, held, taken, judged}
 
--- ---- a finding on paper and in the code
+-- ---- what a `?` hands on
 
-pub told-back : (t : Told) → told (told_check t) ≡ t
-told-back Told.Done = refl
-told-back (Told.Refused num at) = refl
-
-pub told_check_lem : (c : Check) → told_check (told c) ≡ c
-told_check_lem fine = refl
-told_check_lem (bad num at) = refl
+pub held_err : {A : Type 0} (f : A → Tally) (r : Result A Refusal) (e : Refusal) → IsErrAnd r (λ d. d ≡ e) → held f r ≡ Err (bad (number_of e) (place_of e))
+held_err f (Ok x) e on = absurd on
+held_err f (Err d) e on = rw on refl
 
 -- ---- one row more
 
@@ -77,10 +73,10 @@ module _ (f : Found) (r : Row) where
       rw (length-map (f.rows ++ (r ∷ [])) (λ x. x.a), count_more, sum-suc, length-map f.rows (λ x. x.a), row_last (λ x. x.w) f.rows r)
       (ap (λ k. k + r.w) (sum_ext (length f.rows) _ _ (λ i h. row_kept (λ x. x.w) f.rows r i h)))
 
-  pub row_next : scan_row (scan_of f) r.a r.b r.w ≡ scan_of (with_row f r)
-  row_next = rw (links_more, count_more, add-one, told_check_lem, ← told_more)
+  row_next : Scan.with_row (tally_of f) f.n (record { a = r.a; b = r.b; w = r.w }) ≡ tally_of (with_row f r)
+  row_next = rw (links_more, count_more, add-one, ← told_more)
 
-pub nodes_next : (f : Found) (n : ℕ) → f.rows ≡ [] → scan_nodes (scan_of f) n ≡ scan_of (with_nodes f n)
+nodes_next : (f : Found) (n : ℕ) → f.rows ≡ [] → Scan.with_nodes (tally_of f) n ≡ tally_of (with_nodes f n)
 unfolding sum rows_check
 nodes_next f n e = rw e refl
 
@@ -98,59 +94,66 @@ run_more zero s end at f h e = absurd (omega arith)
 run_more (suc t) s end at f h e = (t, refl, rw (lt-ltb at end h))
 
 -- where the judging pass stands: the state is that of the records found so far, and the whole run is theirs and the rest's
-pub record Going (s : List ℕ) (end : ℕ) (whole : Run) (at : ℕ) (c : Scan) : Type 0 where
+pub record Going (s : List ℕ) (end : ℕ) (whole : Run) (at : ℕ) (t : Tally) : Type 0 where
   pub turns : ℕ
   pub found : Found
   pub same : whole ≡ run_from turns s end at found
   pub enough : end ≤ at + turns
-  pub holds : c ≡ scan_of found
+  pub holds : t ≡ tally_of found
   pub bare : found.seen ≡ false → found.rows ≡ []
 
-pub begins : (s : List ℕ) (start end : ℕ) → Going s end (run_from end s end start nothing) start (record { seen = false; n = 0; rows = 0; sum = 0; told = Told.Done })
+pub begins : (s : List ℕ) (start end : ℕ) → Going s end (run_from end s end start nothing) start (record { nodes = None; rows = 0; sum = 0; bad = fine })
 unfolding sum rows_check
 begins s start end =
     record { turns = end; found = nothing; same = refl; enough = omega arith; holds = refl; bare = λ _. refl }
 
-module _ {s : List ℕ} {end at : ℕ} {whole : Run} {c : Scan} (g : Going s end whole at c) where
-  pub ended : end ≤ at → judged whole ≡ Code.Run.Ran c
+-- a record that is not in its place ends the run
+out_of_place : (x : Code.Item) (seen : Bool) (f : Found) (at to : ℕ) {num place : ℕ} → taken x at (cond seen (Some f.n) None) (tally_of f) ≡ Err (bad num place)
+    → (go : ℕ → Found → Run) → follow (placed seen at (item_paper x to)) f go ≡ stopped num place
+out_of_place (Code.Item.Nodes n) true f at to e go = cc
+out_of_place (Code.Item.Nodes n) false f at to e go = cc
+out_of_place (Code.Item.Row r) true f at to e go = cc
+out_of_place (Code.Item.Row r) false f at to e go = cc
+out_of_place Code.Item.Skipped seen f at to e go = cc
+
+-- one that is leads the run and the state on
+in_place : (x : Code.Item) (seen : Bool) (f : Found) (at to : ℕ) {t : Tally} → f.seen ≡ seen → (f.seen ≡ false → f.rows ≡ [])
+    → taken x at (cond seen (Some f.n) None) (tally_of f) ≡ Ok t
+    → (k : Found) × ((go : ℕ → Found → Run) → follow (placed seen at (item_paper x to)) f go ≡ go to k) × (t ≡ tally_of k) × (k.seen ≡ false → k.rows ≡ [])
+in_place (Code.Item.Nodes n) true f at to {t} is bare e = absurd (let z : ◌≡◌ {A = ℕ} 0 1 = cc in omega arith)
+in_place (Code.Item.Nodes n) false f at to {t} is bare e =
+    let same : Scan.with_nodes (tally_of f) n ≡ t = cc in
+    (with_nodes f n, (λ go. refl), sym same ∙ nodes_next f n (bare is), λ z. true-false true refl z)
+in_place (Code.Item.Row r) true f at to {t} is bare e =
+    let same : Scan.with_row (tally_of f) f.n r ≡ t = cc in
+    let r' : Row = record { a = r.a; b = r.b; w = r.w } in
+    (with_row f r', (λ go. refl), sym same ∙ row_next f r', λ z. true-false f.seen is z)
+in_place (Code.Item.Row r) false f at to {t} is bare e = absurd (let z : ◌≡◌ {A = ℕ} 0 1 = cc in omega arith)
+in_place Code.Item.Skipped seen f at to {t} is bare e = let same : t ≡ tally_of f = cc in (f, (λ go. refl), same, bare)
+
+module _ {s : List ℕ} {end at : ℕ} {whole : Run} {t : Tally} (g : Going s end whole at t) where
+  pub ended : end ≤ at → judged whole ≡ Ok t
   ended h = rw (g.same, run_end g.turns s end at g.found h, g.holds)
 
-  -- what a record does to the run and to the state
-  follow_wrong : (x : Item) (num place : ℕ) (go : ℕ → Found → Run) → step_of (scan_of g.found) x ≡ Step.Wrong num place
-      → follow x g.found go ≡ stopped num place
-  follow_wrong (broken k p) num place go e = cc
-  follow_wrong (nodes_item n to) num place go e = cc
-  follow_wrong (row_item r to) num place go e = cc
-  follow_wrong (skipped to) num place go e = cc
+  pub wrong : at < end → {num place : ℕ} → broken num place ≡ item_at s end at g.found.seen → judged whole ≡ Err (bad num place)
+  wrong h e = rw (g.same, (run_more g.turns s end at g.found h g.enough).2, ← e)
 
-  pub wrong : at < end → (num place : ℕ) → step_of c (item_at s end at c.seen) ≡ Step.Wrong num place → judged whole ≡ Code.Run.Stopped num place
-  wrong h num place e =
+  pub misplaced : at < end → (x : Code.Item) (to : ℕ) {num place : ℕ} → placed g.found.seen at (item_paper x to) ≡ item_at s end at g.found.seen
+      → taken x at t.nodes t ≡ Err (bad num place) → judged whole ≡ Err (bad num place)
+  misplaced h x to is e =
+      let m = run_more g.turns s end at g.found h g.enough in
+      rw (g.same, m.2, ← is, out_of_place x g.found.seen g.found at to (rw g.holds at e) (λ to k. run_from m.0 s end to k))
+
+  pub onward : at < end → (x : Code.Item) (to : ℕ) {d : Tally} → placed g.found.seen at (item_paper x to) ≡ item_at s end at g.found.seen
+      → taken x at t.nodes t ≡ Ok d → at < to → Going s end whole to d
+  onward h x to is e forth =
       let f = g.found in
       let m = run_more g.turns s end at f h g.enough in
-      let e' : step_of (scan_of f) (item_at s end at f.seen) ≡ Step.Wrong num place = rw g.holds at e in
-      rw (g.same, m.2, follow_wrong (item_at s end at f.seen) num place (λ to k. run_from m.0 s end to k) e')
-
-  follow-on : (x : Item) (to : ℕ) (d : Scan) → Sound s end at g.found.seen x → step_of (scan_of g.found) x ≡ Step.On to d
-      → (k : Found) × ((go : ℕ → Found → Run) → follow x g.found go ≡ go to k) × (d ≡ scan_of k) × (k.seen ≡ false → k.rows ≡ [])
-  follow-on (broken num p) to d good e = absurd (let z : ◌≡◌ {A = ℕ} 0 1 = cc in omega arith)
-  follow-on (nodes_item n to') to d good e =
-      let same : scan_nodes (scan_of g.found) n ≡ d = cc in
-      (with_nodes g.found n, (λ go. cc), sym same ∙ nodes_next g.found n (g.bare good.1.1), λ z. true-false true refl z)
-  follow-on (row_item r to') to d good e =
-      let same : scan_row (scan_of g.found) r.a r.b r.w ≡ d = cc in
-      (with_row g.found r, (λ go. cc), sym same ∙ row_next g.found r, λ z. true-false g.found.seen good.1.after_nodes z)
-  follow-on (skipped to') to d good e = (g.found, (λ go. cc), (cc), g.bare)
-
-  pub onward : at < end → (to : ℕ) (d : Scan) → step_of c (item_at s end at c.seen) ≡ Step.On to d → at < to → Going s end whole to d
-  onward h to d e forth =
-      let f = g.found in
-      let m = run_more g.turns s end at f h g.enough in
-      let e' : step_of (scan_of f) (item_at s end at f.seen) ≡ Step.On to d = rw g.holds at e in
-      let k = follow-on (item_at s end at f.seen) to d (sound s end at f.seen) e' in
+      let k = in_place x f.seen f at to refl g.bare (rw g.holds at e) in
       record {
         turns = m.0;
         found = k.0;
-        same = g.same ∙ m.2 ∙ k.1 (λ to k. run_from m.0 s end to k);
+        same = g.same ∙ m.2 ∙ rw (← is) (k.1 (λ to k. run_from m.0 s end to k));
         enough = omega (arith, m.1, g.enough);
         holds = k.2;
         bare = k.3;

@@ -1,6 +1,13 @@
--- The filling pass, record by record: what is stored of a kind 2 record, and what that needs.
-use Rattle.std.specs.Prelude.{ℕ, ◌+◌, ◌<◌, cond, List, length, get_or, set, eqb}
-use Rattle.meaning.specs.File.{get16}
+-- The filling pass: what it needs of the run and of the lent lists, and, record by record, what is stored of a kind 2 record.
+use Rattle.std.specs.Prelude.{ℕ, ◌≡◌, ◌+◌, ◌≤◌, ◌<◌, cond, List, length, get_or, set, eqb}
+use Rattle.meaning.specs.File.{get16, Run, ran, found_in}
+
+-- a run ran, and each lent list has a place for each of its rows
+pub record Fits (r : Run) (ra rb rw : ℕ) : Type 0 where
+  pub ran_it : r ≡ ran (found_in r)
+  pub room_a : length (found_in r).rows ≤ ra
+  pub room_b : length (found_in r).rows ≤ rb
+  pub room_w : length (found_in r).rows ≤ rw
 
 -- a kind 2 record at an offset is within the file, and each list has a place i
 pub record LaysRow (s : List ℕ) (at i : ℕ) (a b w : List ℕ) : Type 0 where

@@ -1,104 +1,94 @@
--- The reader's own enums and its running state on paper: what a record, a step and a run of the code stand for in `File.antt` of `meaning`.
--- `scan_of` is what the state holds of the records so far, and the other definitions follow it from record to record.
-use Rattle.std.specs.Prelude.{ℕ, ◌+◌, ◌*◌, ◌≤◌, ◌<◌, Bool, true, false, not, cond, ◌||◌, List, [], ◌∷◌, length, eqb, ltb}
-use Rattle.meaning.specs.Numbers.{Check, fine, bad, when, ◌⟫◌, Answer, answered, record_kind, nodes_record, row_count}
+-- The reader's own types on paper: what a record, the running state and a run of the code stand for in `File.antt` of `meaning`.
+-- `tally_of` is what the state holds of the records so far, and the other definitions follow it from record to record.
+use Rattle.std.specs.Prelude.{ℕ, ◌+◌, ◌*◌, ◌≤◌, Bool, false, not, cond, List, length, eqb, Option, Some, None, Result, Ok, Err}
+use Rattle.meaning.specs.Numbers.{Check, bad, when, ◌⟫◌, nodes_record, row_count}
 use Rattle.meaning.specs.Links.{list_of, links, rows_check}
 use Rattle.meaning.specs.File as File
-use Rattle.meaning.specs.File.{get16, Row, broken, nodes_item, row_item, skipped, Found, ran, stopped, rows_given}
+use Rattle.meaning.specs.File.{get16, broken, nodes_item, row_item, skipped, Found, ran, stopped, rows_given}
+use Rattle.lists.specs.declared.Row.{Row}
 use Rattle.lists.specs.Parts.{size_check, row_numbers, sum_check}
-use Rattle.answers.specs.declared.Told.{Told}
-use Rattle.answers.specs.Paper.{told_check}
+use Rattle.answers.specs.declared.Refusal.{Refusal}
+use Rattle.answers.specs.Paper.{number_of, place_of, told_check}
 use Rattle.read.specs.declared.Item.{Item}
 use Rattle.read.specs.declared.Scan.{Scan}
-use Rattle.read.specs.declared.Step.{Step}
-use Rattle.read.specs.declared.Run.{Run}
 
 -- ---- one record
 
-abbrev pub item_paper : Item → File.Item
-item_paper (Item.Broken num at) = broken num at
-item_paper (Item.Nodes n to) = nodes_item n to
-item_paper (Item.Row a b w to) = row_item (record { a = a; b = b; w = w }) to
-item_paper (Item.Skipped to) = skipped to
+-- the row of the record at an offset
+abbrev pub row_read : List ℕ → ℕ → Row
+row_read s at = record { a = get16 s (at + 2); b = get16 s (at + 4); w = get16 s (at + 6) }
 
--- a kind 1 record of this length
-abbrev pub nodes_at : List ℕ → ℕ → ℕ → Bool → File.Item
-nodes_at s at len seen =
-    cond (eqb len 4) (cond seen (broken nodes_record at) (nodes_item (get16 s (at + 2)) (at + len))) (broken record_kind at)
+abbrev pub item_paper : Item → ℕ → File.Item
+item_paper (Item.Nodes n) to = nodes_item n to
+item_paper (Item.Row r) to = row_item (record { a = r.a; b = r.b; w = r.w }) to
+item_paper Item.Skipped to = skipped to
 
--- a kind 2 record of this length
-abbrev pub row_at : List ℕ → ℕ → ℕ → Bool → File.Item
-row_at s at len seen =
-    cond (eqb len 8)
-    (cond seen (row_item (record { a = get16 s (at + 2); b = get16 s (at + 4); w = get16 s (at + 6) }) (at + len)) (broken nodes_record at))
-    (broken record_kind at)
+-- a record as it is read, with the offset after it
+abbrev pub record_paper : Result (Item × ℕ) Refusal → File.Item
+record_paper (Ok p) = item_paper p.0 p.1
+record_paper (Err e) = broken (number_of e) (place_of e)
+
+-- the same where it stands; `seen`: a kind 1 came before
+abbrev pub placed : Bool → ℕ → File.Item → File.Item
+placed seen at (broken num place) = broken num place
+placed seen at (nodes_item n to) = cond seen (broken nodes_record at) (nodes_item n to)
+placed seen at (row_item r to) = cond seen (row_item r to) (broken nodes_record at)
+placed seen at (skipped to) = skipped to
 
 -- ---- the running state
 
--- a check's finding as the code holds it
-abbrev pub told : Check → Told
-told fine = Told.Done
-told (bad num at) = Told.Refused num at
+-- what the state holds: n, where a kind 1 came, the number of rows, the sum of their weights, and their checks
+pub record Tally : Type 0 where
+  pub nodes : Option ℕ
+  pub rows : ℕ
+  pub sum : ℕ
+  pub bad : Check
 
--- what the state holds of the records so far
-abbrev pub scan_of : Found → Scan
-scan_of f =
+abbrev pub tally : Scan → Tally
+tally c = record { nodes = c.nodes; rows = c.rows; sum = c.sum; bad = told_check c.bad }
+
+-- the same of the records so far
+abbrev pub tally_of : Found → Tally
+tally_of f =
     record {
-      seen = f.seen;
-      n = f.n;
+      nodes = cond f.seen (Some f.n) None;
       rows = length f.rows;
       sum = links (list_of (rows_given f));
-      told = told (rows_check (list_of (rows_given f)) (length f.rows));
+      bad = rows_check (list_of (rows_given f)) (length f.rows);
     }
 
-abbrev pub scan_nodes : Scan → ℕ → Scan
-scan_nodes c n = record { seen = true; n = n; rows = c.rows; sum = c.sum; told = c.told }
+abbrev pub with_nodes : Tally → ℕ → Tally
+with_nodes t n = record { nodes = Some n; rows = t.rows; sum = t.sum; bad = t.bad }
 
-abbrev pub scan_row : Scan → ℕ → ℕ → ℕ → Scan
-scan_row c a b w =
-    record {
-      seen = c.seen;
-      n = c.n;
-      rows = c.rows + 1;
-      sum = c.sum + w;
-      told = told (told_check c.told ⟫ row_numbers c.n c.rows a b w);
-    }
+abbrev pub with_row : Tally → ℕ → Row → Tally
+with_row t n r =
+    record { nodes = t.nodes; rows = t.rows + 1; sum = t.sum + r.w; bad = t.bad ⟫ row_numbers n t.rows r.a r.b r.w }
 
--- one record is taken in
-abbrev pub step_of : Scan → File.Item → Step
-step_of c (broken num at) = Step.Wrong num at
-step_of c (nodes_item n to) = Step.On to (scan_nodes c n)
-step_of c (row_item r to) = Step.On to (scan_row c r.a r.b r.w)
-step_of c (skipped to) = Step.On to c
+-- a step's or a run's result, with what it holds where it is fine
+abbrev pub held : {A : Type 0} → (A → Tally) → Result A Refusal → Result Tally Check
+held f (Ok x) = Ok (f x)
+held f (Err e) = Err (bad (number_of e) (place_of e))
+
+-- one record is taken in, where it is in its place
+abbrev pub taken : Item → ℕ → Option ℕ → Tally → Result Tally Check
+taken (Item.Nodes n) at None t = Ok (with_nodes t n)
+taken (Item.Nodes n) at (Some m) t = Err (bad nodes_record at)
+taken (Item.Row r) at None t = Err (bad nodes_record at)
+taken (Item.Row r) at (Some n) t = Ok (with_row t n r)
+taken Item.Skipped at nodes t = Ok t
 
 -- at an offset, the rows and their weights are few enough that no count overflows
 pub record Light (at : ℕ) (c : Scan) : Type 0 where
   pub few : c.rows ≤ at
   pub low : c.sum ≤ 65535 * at
 
--- a step goes forward, stays within the end and stays light
-abbrev pub Stepped : ℕ → ℕ → Step → Type 0
-Stepped end at (Step.Wrong num place) = Unit
-Stepped end at (Step.On to c) = (at < to) × ((to ≤ end) × Light to c)
-
 -- a run as the code holds it
-abbrev pub judged : File.Run → Run
-judged (ran f) = Run.Ran (scan_of f)
-judged (stopped num at) = Run.Stopped num at
+abbrev pub judged : File.Run → Result Tally Check
+judged (ran f) = Ok (tally_of f)
+judged (stopped num at) = Err (bad num at)
 
--- ---- what is left to check at the end of a run
-
--- one of three lent lists has no place for each row
-abbrev pub any_short : ℕ → ℕ → ℕ → ℕ → Bool
-any_short rows ra rb rw = ltb ra rows || ltb rb rows || ltb rw rows
-
-abbrev pub scan_check : Scan → ℕ → ℕ → Bool → Check
-scan_check c end count short =
-    when (not c.seen) nodes_record end
-    ⟫ when (not (eqb count c.rows)) row_count 0
-    ⟫ size_check c.n c.rows false short
-    ⟫ told_check c.told
-    ⟫ sum_check c.sum
-
-abbrev pub scan_answer : Scan → ℕ → ℕ → Bool → Answer
-scan_answer c end count short = answered (scan_check c end count short) (c.n ∷ c.rows ∷ [])
+-- what is left to check at the end of a run
+abbrev pub left_check : Option ℕ → Tally → ℕ → ℕ → Bool → Check
+left_check None t end count short = bad nodes_record end
+left_check (Some n) t end count short =
+    when (not (eqb count t.rows)) row_count 0 ⟫ size_check n t.rows false short ⟫ t.bad ⟫ sum_check t.sum

@@ -1,321 +1,244 @@
 // The reader of "The file": bytes in, a list of links out, into three lent lists.
 // `read` promises, for every list of bytes, the answer that `meaning` defines and every place of the lent lists afterwards.
-// A record is read by `item_at`, which answers an enum. `run_from` reads the run of records from one offset to another and judges its rows
-// on the way, `decide` finds the first number in document 01's order, and only then does `fill` store. No byte of the file is copied.
+// `Records::of` takes the trailer off (1, 2, 3), `Records::scan` goes from record to record (4, 5, 6, 7) and judges the rows on the way,
+// `Scan::decide` finds the first number of what is left in document 01's order, and only then does `Records::fill` store. No byte is copied.
 #![tactic(auto)]
 
-ghost use Rattle.std.specs.Prelude.{◌≡◌, cond, ◌+◌, ◌*◌, ◌≤◌, ◌<◌, eqb, length, get_or};
+ghost use Rattle.std.specs.Prelude.{◌≡◌, Bool, cond, ◌+◌, ◌*◌, ◌≤◌, ◌<◌, eqb, length, get_or, Option, Some, IfOk};
 ghost use Rattle.meaning.specs.Sums.{laid};
 ghost use Rattle.meaning.specs.Numbers.{fine, ◌⟫◌};
-ghost use Rattle.meaning.specs.File.{get16, get32, item_at, run_from, nothing, file_check, list_in};
-ghost use Rattle.meaning.specs.Calls.{read_answer};
-ghost use Rattle.answers.specs.Paper.{told_check, found_paper};
-ghost use Rattle.roundtrip.specs.Promises.{Reads};
+ghost use Rattle.meaning.specs.File.{get16, item_at, rows_given, found_in};
+ghost use Rattle.answers.specs.Paper.{told_check};
 ghost use Rattle.lists.specs.Parts.{row_numbers};
-ghost use Rattle.read.specs.Scan.{item_paper, nodes_at, row_at, scan_row, step_of, Light, Stepped, judged, any_short, scan_check, scan_answer};
+ghost use Rattle.lists.specs.Given.{SameLists};
+ghost use Rattle.roundtrip.specs.Promises.{Reads};
+ghost use Rattle.read.specs.Scan.{placed, record_paper, row_read};
 ghost use Rattle.read.specs.Fill.{LaysRow, laid_at};
 
-use answers::{Found, Told};
+use answers::{Found, Refusal};
+use lists::{Columns, Row};
 
-// What a record is, with the offset after it.
+// The kinds of record that hold something, and the first of those that are skipped.
+const NODES: u8 = 1;
+
+const ROW: u8 = 2;
+
+const SKIPPED: u8 = 128;
+
+// What a record holds.
 #[derive(Clone, Copy)]
 enum Item {
-    Broken(u32, usize),
-    Nodes(u16, usize),
-    Row(u16, u16, u16, usize),
-    Skipped(usize),
+    Nodes(u16),
+    Row(Row),
+    Skipped,
 }
 
-// What the records so far hold, as far as the answer needs it: whether a kind 1 came, its n, the number of rows, the sum of their
-// weights, and what the first bad row is told.
+// What the records so far hold, as far as the answer needs it: n, where a kind 1 came, the number of rows, the sum of their weights,
+// and what the first bad row is told.
 #[derive(Clone, Copy)]
 struct Scan {
-    seen: bool,
-    n: u32,
+    nodes: Option<u32>,
     rows: usize,
     sum: u64,
-    told: Told,
+    bad: Result<(), Refusal>,
 }
 
-// A record was taken in and the run goes on after it, or the record is wrong.
+// The records of a file whose trailer is good: they run from `start` to the end of `bytes`, and `count` is the trailer's row count.
 #[derive(Clone, Copy)]
-enum Step {
-    On(usize, Scan),
-    Wrong(u32, usize),
-}
-
-// A run ends with what it holds, or at the first record that is wrong.
-#[derive(Clone, Copy)]
-enum Run {
-    Ran(Scan),
-    Stopped(u32, usize),
-}
-
-// ---- numbers in a file: little-endian
-
-fn number16(s: &[u8], at: usize) -> u16
-    requires { at + 1 < length s.now }
-    ensures { result ≡ get16 s.now at }
-{
-    let low = s[at] as u16;
-    let high = s[at + 1] as u16;
-    low + 256 * high
-}
-
-fn number32(s: &[u8], at: usize) -> u32
-    requires { at + 3 < length s.now }
-    ensures { result ≡ get32 s.now at }
-{
-    number16(s, at) as u32 + 65536 * (number16(s, at + 2) as u32)
+struct Records<'a> {
+    bytes: &'a [u8],
+    start: usize,
+    count: usize,
+    ghost few: { length bytes.now < 65536 },
 }
 
 // ---- one record
 
-// A kind 1 record: its length, and that it is the first.
-fn nodes(s: &[u8], at: usize, len: usize, seen: bool) -> Item
-    requires { at + len ≤ length s.now }
-    ensures { item_paper result ≡ nodes_at s.now at len seen }
+// A number in a file: little-endian.
+fn number16(s: &[u8], at: usize) -> u16
+    requires { at + 1 < length s.now }
+    ensures { result ≡ get16 s.now at }
 {
-    if len != 4 {
-        return Item::Broken(answers::RECORD_KIND, at);
-    }
-    if seen {
-        return Item::Broken(answers::NODES_RECORD, at);
-    }
-    Item::Nodes(number16(s, at + 2), at + len)
+    u16::from_le_bytes([s[at], s[at + 1]])
 }
 
-// A kind 2 record: its length, and that a kind 1 came before.
-fn row(s: &[u8], at: usize, len: usize, seen: bool) -> Item
-    requires { at + len ≤ length s.now }
-    ensures { item_paper result ≡ row_at s.now at len seen }
+// The row of a kind 2 record.
+fn row_at(s: &[u8], at: usize) -> Row
+    requires { at + 7 < length s.now }
+    ensures { result ≡ row_read s.now at }
 {
-    if len != 8 {
-        return Item::Broken(answers::RECORD_KIND, at);
+    Row {
+        a: number16(s, at + 2),
+        b: number16(s, at + 4),
+        w: number16(s, at + 6),
     }
-    if seen {
-        return Item::Row(
-            number16(s, at + 2),
-            number16(s, at + 4),
-            number16(s, at + 6),
-            at + len,
-        );
-    }
-    Item::Broken(answers::NODES_RECORD, at)
 }
 
-// The record at an offset before the end. Its length byte is looked at before it is used.
-fn item_at(s: &[u8], end: usize, at: usize, seen: bool) -> Item
-    requires { (at < end) × (end ≤ length s.now) }
-    ensures { item_paper result ≡ item_at s.now end at seen }
+// The record at an offset, and the offset after it: 4, 5, 6. Its length byte is looked at before it is used.
+#[tactic(auto, unfolding(meaning::specs::File::item_at))]
+fn item_at(s: &[u8], at: usize) -> Result<(Item, usize), Refusal>
+    requires { at < length s.now }
+    ensures value { (seen : Bool) → placed seen at (record_paper result) ≡ item_at s.now (length s.now) at seen }
+    ensures forth { IfOk result (λ p. (at < p.1) × (p.1 ≤ length s.now)) }
 {
-    let len = s[at] as usize;
+    let len = usize::from(s[at]);
     if len < 2 {
-        return Item::Broken(answers::RECORD_LENGTH, at);
+        return Err(Refusal::RecordLength(at));
     }
-    if end < at + len {
-        return Item::Broken(answers::RECORD_PASSES, at);
+    if s.len() < at + len {
+        return Err(Refusal::RecordPasses(at));
     }
-    let kind = s[at + 1];
-    if 128 <= kind {
-        return Item::Skipped(at + len);
-    }
-    if kind == 1 {
-        return nodes(s, at, len, seen);
-    }
-    if kind == 2 {
-        return row(s, at, len, seen);
-    }
-    Item::Broken(answers::RECORD_KIND, at)
-}
-
-// ---- a run of records
-
-// The first bad row decides.
-fn rows_told(told: Told, n: u32, r: usize, a: u16, b: u16, w: u16) -> Told
-    ensures { told_check result ≡ told_check told ⟫ row_numbers n r a b w }
-{
-    let Told::Done = told else {
-        return told;
-    };
-    lists::row_check(n, r, a, b, w)
-}
-
-fn with_row(c: Scan, a: u16, b: u16, w: u16) -> Scan
-    requires { (c.rows < 65536) × (c.sum < 65536 * 65536) }
-    ensures { result ≡ scan_row c a b w }
-{
-    let before = c.told;
-    let told = rows_told(before, c.n, c.rows, a, b, w);
-    Scan {
-        seen: c.seen,
-        n: c.n,
-        rows: c.rows + 1,
-        sum: c.sum + w as u64,
-        told: told,
+    match (s[at + 1], len) {
+        (SKIPPED.., _) => Ok((Item::Skipped, at + len)),
+        (NODES, 4) => Ok((Item::Nodes(number16(s, at + 2)), at + len)),
+        (ROW, 8) => Ok((Item::Row(row_at(s, at)), at + len)),
+        _ => Err(Refusal::RecordKind(at)),
     }
 }
 
-fn step_at(s: &[u8], end: usize, at: usize, c: Scan) -> Step
-    requires { (at < end) × ((end ≤ length s.now) × ((end < 65536) × Light at c)) }
-    ensures value { result ≡ step_of c (item_at s.now end at c.seen) }
-    ensures good { Stepped end at result }
-{
-    match item_at(s, end, at, c.seen) {
-        Item::Broken(num, place) => Step::Wrong(num, place),
-        Item::Nodes(n, next) => {
-            let told = c.told;
-            Step::On(
-                next,
-                Scan {
-                    seen: true,
-                    n: n as u32,
-                    rows: c.rows,
-                    sum: c.sum,
-                    told: told,
-                },
-            )
-        }
-        Item::Row(a, b, w, next) => Step::On(next, with_row(c, a, b, w)),
-        Item::Skipped(next) => Step::On(next, c),
-    }
-}
+// ---- the running state
 
-// The run of records from one offset to another, judged in one pass.
-fn run_from(s: &[u8], start: usize, end: usize) -> Run
-    requires { (end ≤ length s.now) × (end < 65536) }
-    ensures { result ≡ judged (run_from end s.now end start nothing) }
-{
-    let mut at = start;
-    let mut c = Scan {
-        seen: false,
-        n: 0,
-        rows: 0,
-        sum: 0,
-        told: Told::Done,
-    };
-    while at < end {
-        match step_at(s, end, at, c) {
-            Step::Wrong(num, place) => {
-                return Run::Stopped(num, place);
+impl Scan {
+    ghost use Rattle.read.specs.Scan.{Light, tally, held, taken, left_check};
+
+    // Takes in the record at an offset: 7. The first bad row decides.
+    fn take(&mut self, item: Item, at: usize) -> Result<(), Refusal>
+        requires { (at < 65536) × Light at self.old }
+        ensures value { held (λ _. tally self.new) result ≡ taken item at self.old.nodes (tally self.old) }
+        ensures light { Light (at + 1) self.new }
+    {
+        match (item, self.nodes) {
+            (Item::Skipped, _) => {}
+            (Item::Nodes(n), None) => self.nodes = Some(u32::from(n)),
+            (Item::Row(row), Some(n)) => {
+                if let Err(e) = lists::row_check(n, self.rows, row) {
+                    self.bad = self.bad.and(Err(e));
+                }
+                self.rows += 1;
+                self.sum += u64::from(row.w);
             }
-            Step::On(next, more) => {
-                at = next;
-                c = more;
-            }
+            _ => return Err(Refusal::NodesRecord(at)),
         }
+        Ok(())
     }
-    Run::Ran(c)
-}
 
-// ---- the whole file
-
-fn no_room(rows: usize, ra: usize, rb: usize, rw: usize) -> bool
-    ensures { result ≡ any_short rows ra rb rw }
-{
-    if ra < rows || rb < rows {
-        return true;
-    }
-    rw < rows
-}
-
-// What is left to check where every record is good: document 01's order from the missing kind 1 to 18.
-fn decide(c: Scan, end: usize, count: usize, short: bool) -> Told
-    ensures { told_check result ≡ scan_check c end count short }
-{
-    if !c.seen {
-        return Told::Refused(answers::NODES_RECORD, end);
-    }
-    if count != c.rows {
-        return Told::Refused(answers::ROW_COUNT, 0);
-    }
-    let sized = lists::size_check(c.n, c.rows, false, short);
-    let Told::Done = sized else {
-        return sized;
-    };
-    let told = c.told;
-    lists::sum_check(told, c.sum)
-}
-
-fn answer(c: Scan, end: usize, count: usize, short: bool) -> Found
-    ensures { found_paper result ≡ scan_answer c end count short }
-{
-    match decide(c, end, count, short) {
-        Told::Refused(num, place) => Found::Refused(num, place),
-        Told::Done => Found::Rows(c.n, c.rows),
-    }
-}
-
-// The answer, with nothing stored: lent lists of ra, rb and rw places.
-fn judge(s: &[u8], ra: usize, rb: usize, rw: usize) -> Found
-    ensures { found_paper result ≡ read_answer s.now ra rb rw }
-{
-    if s.len() < 8 || 32768 < s.len() {
-        return Found::Refused(answers::FILE_SIZE, 0);
-    }
-    let end = s.len() - 8;
-    if s[end + 6] != 0x4C || s[end + 7] != 0x54 {
-        return Found::Refused(answers::WRONG_MARK, 0);
-    }
-    let start = number32(s, end) as usize;
-    if end < start {
-        return Found::Refused(answers::START_PAST, 0);
-    }
-    match run_from(s, start, end) {
-        Run::Stopped(num, place) => Found::Refused(num, place),
-        Run::Ran(c) => answer(
-            c,
-            end,
-            number16(s, end + 4) as usize,
-            no_room(c.rows, ra, rb, rw),
-        ),
+    // What is left to check where every record is good: document 01's order from the missing kind 1 to 18.
+    fn decide(&self, records: &Records<'_>, short: bool) -> Result<Found, Refusal>
+        ensures found { told_check result ≡ left_check self.now.nodes (tally self.now) (length records.now.bytes.now) records.now.count short }
+        ensures counts { IfOk result (λ f. (self.now.nodes ≡ Some f.n) × (f.rows ≡ self.now.rows)) }
+    {
+        let Some(n) = self.nodes else {
+            return Err(Refusal::NodesRecord(records.bytes.len()));
+        };
+        if records.count != self.rows {
+            return Err(Refusal::RowCount);
+        }
+        lists::size_check(n, self.rows, false, short)?;
+        lists::sum_check(self.bad, self.sum)?;
+        Ok(Found { n, rows: self.rows })
     }
 }
 
 // ---- the filling pass
 
 // The row of a kind 2 record becomes row i of the lists; the number of rows then.
-fn lay(s: &[u8], at: usize, i: usize, a: &mut [u16], b: &mut [u16], w: &mut [u16]) -> usize
-    requires at_in_bounds { at + 1 < length s.now }
-    requires lays_row { get_or s.now (at + 1) 0 ≡ 2 → LaysRow s.now at i a.old b.old w.old }
+fn lay(s: &[u8], at: usize, i: usize, out: &mut Columns<'_>) -> usize
+    requires within { at + 1 < length s.now }
+    requires lays { get_or s.now (at + 1) 0 ≡ 2 → LaysRow s.now at i out.old.a.now out.old.b.now out.old.w.now }
     ensures value { result ≡ cond (eqb (get_or s.now (at + 1) 0) 2) (i + 1) i }
-    ensures a_after { a.new ≡ laid_at s.now at 2 i a.old }
-    ensures b_after { b.new ≡ laid_at s.now at 4 i b.old }
-    ensures w_after { w.new ≡ laid_at s.now at 6 i w.old }
+    ensures same { SameLists out.old out.new }
+    ensures a_after { out.new.a.now ≡ laid_at s.now at 2 i out.old.a.now }
+    ensures b_after { out.new.b.now ≡ laid_at s.now at 4 i out.old.b.now }
+    ensures w_after { out.new.w.now ≡ laid_at s.now at 6 i out.old.w.now }
 {
-    if s[at + 1] != 2 {
+    if s[at + 1] != ROW {
         return i;
     }
-    a[i] = number16(s, at + 2);
-    b[i] = number16(s, at + 4);
-    w[i] = number16(s, at + 6);
+    let row = row_at(s, at);
+    out.a[i] = row.a;
+    out.b[i] = row.b;
+    out.w[i] = row.w;
     i + 1
 }
 
-// The rows of a file whose checks find nothing.
-fn fill(s: &[u8], a: &mut [u16], b: &mut [u16], w: &mut [u16])
-    requires { file_check s.now (length a.old) (length b.old) (length w.old) ≡ fine }
-    ensures a_after { a.new ≡ laid (list_in s.now).la a.old }
-    ensures b_after { b.new ≡ laid (list_in s.now).lb b.old }
-    ensures w_after { w.new ≡ laid (list_in s.now).lw w.old }
-{
-    let end = s.len() - 8;
-    let mut at = number32(s, end) as usize;
-    let mut i = 0;
-    while at < end {
-        i = lay(s, at, i, a, b, w);
-        at += s[at] as usize;
+// ---- a file
+
+impl<'a> Records<'a> {
+    ghost use Rattle.read.specs.Scan.{tally, held, judged};
+    ghost use Rattle.read.specs.Records.{frame_check, Cut, run_in};
+    ghost use Rattle.read.specs.Fill.{Fits};
+
+    // Takes the trailer off: 1, 2, 3.
+    fn of(s: &'a [u8]) -> Result<Records<'a>, Refusal>
+        ensures found { told_check result ≡ frame_check s.now }
+        ensures cut { IfOk result (λ r. Cut s.now r) }
+    {
+        if s.len() < 8 || 32768 < s.len() {
+            return Err(Refusal::FileSize);
+        }
+        let (bytes, trailer) = s.split_at(s.len() - 8);
+        let [s0, s1, s2, s3, c0, c1, 0x4C, 0x54] = *trailer else {
+            return Err(Refusal::WrongMark);
+        };
+        let start = u32::from_le_bytes([s0, s1, s2, s3]) as usize;
+        if bytes.len() < start {
+            return Err(Refusal::StartPast);
+        }
+        let count = usize::from(u16::from_le_bytes([c0, c1]));
+        Ok(Records {
+            bytes,
+            start,
+            count,
+        })
+    }
+
+    // The run of records, judged in one pass. Not inlined: the loop has the registers to itself.
+    #[inline(never)]
+    fn scan(&self) -> Result<Scan, Refusal>
+        ensures { held tally result ≡ judged (run_in self.now) }
+    {
+        let bytes = self.bytes;
+        let mut at = self.start;
+        let mut scan = Scan {
+            nodes: None,
+            rows: 0,
+            sum: 0,
+            bad: Ok(()),
+        };
+        while at < bytes.len() {
+            let (item, next) = item_at(bytes, at)?;
+            scan.take(item, at)?;
+            at = next;
+        }
+        Ok(scan)
+    }
+
+    // The rows of a file whose checks find nothing.
+    fn fill(&self, out: &mut Columns<'_>)
+        requires { Fits (run_in self.now) (length out.old.a.now) (length out.old.b.now) (length out.old.w.now) }
+        ensures same { SameLists out.old out.new }
+        ensures a_after { out.new.a.now ≡ laid (rows_given (found_in (run_in self.now))).la out.old.a.now }
+        ensures b_after { out.new.b.now ≡ laid (rows_given (found_in (run_in self.now))).lb out.old.b.now }
+        ensures w_after { out.new.w.now ≡ laid (rows_given (found_in (run_in self.now))).lw out.old.w.now }
+    {
+        let bytes = self.bytes;
+        let mut at = self.start;
+        let mut i = 0;
+        while at < bytes.len() {
+            i = lay(bytes, at, i, out);
+            at += usize::from(bytes[at]);
+        }
     }
 }
 
 // Reads a file into three lent lists: n and the number of rows, or a refusal that leaves the lists alone.
-pub fn read(s: &[u8], a: &mut [u16], b: &mut [u16], w: &mut [u16]) -> Found
-    ensures { Reads s.now a.old b.old w.old result a.new b.new w.new }
+pub fn read(s: &[u8], out: &mut Columns<'_>) -> Result<Found, Refusal>
+    ensures same { SameLists out.old out.new }
+    ensures leaves { Reads s.now out.old.a.now out.old.b.now out.old.w.now result out.new.a.now out.new.b.now out.new.w.now }
 {
-    let found = judge(s, a.len(), b.len(), w.len());
-    let Found::Rows(_, _) = found else {
-        return found;
-    };
-    fill(s, a, b, w);
-    found
+    let records = Records::of(s)?;
+    let scan = records.scan()?;
+    let found = scan.decide(&records, out.lack(scan.rows))?;
+    records.fill(out);
+    Ok(found)
 }

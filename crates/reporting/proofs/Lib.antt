@@ -1,4 +1,4 @@
-pub mod Adding
+pub mod Answered
 pub mod Spaced
 pub mod Nodes
 pub mod Members

@@ -10,12 +10,12 @@ use lib.ListN.{length, get_or, take, length-append}
 use lib.Seq.{take-suc, take-length}
 use lib.Dec.{eqb}
 use Rattle.meaning.specs.Sums.{sum, on, has}
-use Rattle.meaning.specs.Report.{digits, decimal, spaced}
+use Rattle.meaning.specs.Report.{digits, decimal, spaced, line, side_text}
 use Rattle.laws.specs.Bools.{on_most}
 use Rattle.laws.specs.Sums.{sum-suc, sum-le}
 use Rattle.laws.specs.Lists.{Distinct, sum-has}
 use Rattle.sides.specs.Bits.{rising, nodes_in}
-use Rattle.reporting.proofs.Spaced.{spaced-append}
+use Rattle.reporting.proofs.Spaced.{spaced-append, line_short}
 
 -- a node takes a space and its digits
 abbrev bytes : ℕ → ℕ
@@ -70,3 +70,7 @@ nodes_short low high =
     let second : sum 64 bytes + length (spaced (rising 64 64 high)) ≤ sum 128 bytes = rising-bytes 64 64 high in
     rw (spaced-append (rising 64 0 low) (rising 64 64 high))
     (omega (arith, length-append (spaced (rising 64 0 low)) (spaced (rising 64 64 high)), all-bytes))
+
+-- line 4
+pub side_short : (low high : ℕ) → length (line side_text (nodes_in low high)) ≤ 407
+side_short low high = line_short side_text (nodes_in low high) (nodes_short low high)

@@ -1,12 +1,8 @@
 -- What the call `order` leaves in 128 places for a list that passed its checks: it never refuses there, since n is at most 128, and the
 -- front of what it leaves is the order, whose nodes differ, so that its line is short.
-use Prim.Native.Nat.{ℕ, ◌≤◌}
-use mathlib.Core.Path.{◌≡◌, refl, ap, ◌∙◌}
-use mathlib.Core.Bool.{false}
-use mathlib.Core.List.{List, []}
-use native.Mathlib.Omega.{arith}
+use Rattle.std.proofs.Common.{ℕ, ◌≤◌, ◌≡◌, refl, ap, ◌∙◌, false, List, [], arith, length, take, drop, replicate, Result, IsOk}
+use Rattle.std.specs.Prelude.{⊤}
 use borrow.Author.Tests.{le-ltb}
-use lib.ListN.{length, take, drop}
 use lib.Seq.{take_at}
 use Rattle.meaning.specs.Numbers.{Check, fine, after, answered}
 use Rattle.meaning.specs.Links.{Given, list_of, list_check}
@@ -14,10 +10,10 @@ use Rattle.meaning.specs.Order.{all}
 use Rattle.meaning.specs.Report.{line, order_text}
 use Rattle.meaning.specs.Calls.{order0, order_check}
 use Rattle.laws.specs.Order.{size_all, length-prefix, prefix_placed}
-use Rattle.answers.specs.Paper.{told_paper}
-use Rattle.answers.specs.declared.Told.{Told}
+use Rattle.answers.specs.declared.Refusal.{Refusal}
 use Rattle.lists.proofs.Passed.{passed}
 use Rattle.order.specs.Ordered.{Ordered}
+use Rattle.reporting.proofs.Answered.{never_refused}
 use Rattle.reporting.proofs.Spaced.{line_short}
 use Rattle.reporting.proofs.Nodes.{different_short}
 
@@ -35,16 +31,12 @@ module _ (g : Given) (good : list_check g false ≡ fine) where
       line_short order_text (order0 g)
       (different_short (order0 g) placed.distinct (λ i h. omega (arith, placed.below i h, has.few_nodes)))
 
-  module _ (t : Told) (old back out back' : List ℕ) (whole : length old ≡ 128) (back_whole : length back ≡ 128)
-      (left : Ordered g old back t out back') where
-    found : order_check g (length old) (length back) ≡ fine
-    found = rw (whole, back_whole) room
+  -- in two lists of 128 places
+  module _ {t : Result ⊤ Refusal} {order back : List ℕ} (left : Ordered g (replicate 128 0) (replicate 128 0) t order back) where
+    pub order_fits : IsOk t
+    order_fits = never_refused (λ _. []) t [] (left.answer ∙ ap (λ (c : Check). answered c []) room)
 
-    pub never_refused : {num at : ℕ} → t ≡ Told.Refused num at → ⊥
-    never_refused is =
-        let z : ◌≡◌ {A = ℕ} 0 1 = cc (left.answer, ap (λ (c : Check). answered c []) found, ap told_paper is) in omega arith
-
-    pub order_listed : take g.n out ≡ order0 g
+    pub order_listed : take g.n order ≡ order0 g
     order_listed =
-        ap (take g.n) (left.order_is ∙ ap (λ (c : Check). after c (order0 g) old) found)
-        ∙ take_at (order0 g) (drop (length (order0 g)) old) g.n order_length
+        ap (take g.n) (left.order_is ∙ ap (λ (c : Check). after c (order0 g) (replicate 128 0)) room)
+        ∙ take_at (order0 g) (drop (length (order0 g)) (replicate 128 0)) g.n order_length

@@ -6,9 +6,12 @@ use native.Mathlib.Numerals.{add-one}
 use native.Mathlib.Omega.{arith}
 use lib.ListN.{length, length-append, take, get_or}
 use lib.Seq.{take-suc}
-use Rattle.meaning.specs.Report.{decimal, spaced, line, least_text, refusal_line}
+use Rattle.meaning.specs.Report.{decimal, spaced, line, least_text}
 use Rattle.text.proofs.Digits.{few_digits}
-use Rattle.reporting.specs.Words.{summary_text}
+use Rattle.answers.specs.declared.Refusal.{Refusal}
+use Rattle.answers.specs.declared.Totals.{Totals}
+use Rattle.answers.specs.Paper.{number_of, place_of}
+use Rattle.reporting.specs.Words.{summary_text, refused_text}
 
 pub spaced-append : (xs ys : List ℕ) → spaced (xs ++ ys) ≡ spaced xs ++ spaced ys
 unfolding spaced
@@ -34,14 +37,13 @@ wide_short x fits = one_short 19 x (omega arith)
 pub line_short : (word xs : List ℕ) → length (spaced xs) ≤ 402 → length (line word xs) ≤ length word + 403
 line_short word xs short = simp length-append (omega arith)
 
-pub summary_short : (n rows links pairs : ℕ) → n < 2 ^ 64 → rows < 2 ^ 64 → links < 2 ^ 64 → pairs < 2 ^ 64
-    → length (summary_text n rows links pairs) ≤ 107
-summary_short n rows links pairs fit_n fit-rows fit-links fit-pairs =
+pub summary_short : (t : Totals) → t.n < 2 ^ 64 → t.rows < 2 ^ 64 → t.links < 2 ^ 64 → t.pairs < 2 ^ 64 → length (summary_text t) ≤ 107
+summary_short t fit_n fit-rows fit-links fit-pairs =
     simp length-append
-    (omega (arith, wide_short n fit_n, wide_short rows fit-rows, wide_short links fit-links, wide_short pairs fit-pairs))
+    (omega (arith, wide_short t.n fit_n, wide_short t.rows fit-rows, wide_short t.links fit-links, wide_short t.pairs fit-pairs))
 
-pub refusal_short : (num place : ℕ) → num < 2 ^ 64 → place < 2 ^ 64 → length (refusal_line num place) ≤ 53
-refusal_short num place fit-num fit-place = simp length-append (omega (arith, wide_short num fit-num, wide_short place fit-place))
+pub refused_short : (e : Refusal) → number_of e < 2 ^ 64 → place_of e < 2 ^ 64 → length (refused_text e) ≤ 53
+refused_short e fit-num fit-place = simp length-append (omega (arith, wide_short (number_of e) fit-num, wide_short (place_of e) fit-place))
 
 -- lines 3 and 4
 pub split_short : (value : ℕ) (l : List ℕ) → value < 2 ^ 64 → length l ≤ 407 → length (line least_text (value ∷ []) ++ l) ≤ 434

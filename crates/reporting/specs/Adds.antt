@@ -1,9 +1,6 @@
--- A text that grows: bytes are laid where a text ends.
+-- A text that grows: a part is added at its end.
 use Rattle.std.specs.Prelude.{ℕ, ◌+◌, ◌≤◌, ◌≡◌, List, ◌++◌, length}
-use Rattle.meaning.specs.Sums.{laid}
 
--- where `old` has a text at its front that ends at `at`, and the new bytes have room after it, `out` has the text and then the new
--- bytes at its front, and `end` is where they end
-pub record Adds (at : ℕ) (old out : List ℕ) (end : ℕ) (new : List ℕ) : Type 0 where
-  pub grows : (text base : List ℕ) → length text ≡ at → old ≡ laid text base → at + length new ≤ length base
-      → (out ≡ laid (text ++ new) base) × (end ≡ at + length new)
+-- where a text of at most 1,024 bytes has room for the part, `new` is `old` and then the part
+abbrev pub Adds : List ℕ → List ℕ → List ℕ → Type 0
+Adds old new part = length old + length part ≤ 1024 → new ≡ old ++ part

@@ -3,7 +3,7 @@ use Rattle.std.specs.Prelude.{ℕ, zero, suc, ◌+◌, ◌/◌, ◌%◌, min, �
 use Rattle.meaning.specs.Numbers.{Check, when, short_room, Answer, answered, after}
 use Rattle.meaning.specs.Split.{word, size_of}
 use Rattle.laws.specs.Words.{bits_of}
-use Rattle.sides.specs.declared.Words.{Words}
+use Rattle.answers.specs.declared.Side.{Side}
 
 -- the set bits among the lowest d of x, bit 0 being numbered `from`, rising
 unfoldable pub rising : ℕ → ℕ → ℕ → List ℕ
@@ -35,7 +35,7 @@ bits from m S = bits_of m (λ v. S (from + v))
 abbrev pub labelled : List ℕ → ℕ → ℕ → Bool
 labelled l t v = eqb (get_or l v 0) t
 
-pub record Sided (n : ℕ) (S : ℕ → Bool) (r : Words) : Type 0 where
+pub record Sided (n : ℕ) (S : ℕ → Bool) (r : Side) : Type 0 where
   pub low_word : r.low ≡ word n S 0
   pub high_word : r.high ≡ word n S 1
   pub right_size : r.size ≡ size_of (min n 128) S

@@ -2,9 +2,10 @@
 -- of `hang_step`, which carries what holds of the divisions of the renamed list back. Assumes nothing.
 use mathlib.Core.Path.{◌≡◌, sym, ◌∙◌}
 use mathlib.Core.Bool.{◌&&◌}
-use mathlib.Core.List.{List}
+use mathlib.Core.List.{List, [], ◌∷◌}
 use mathlib.Core.Logic.{◌⊎◌, inl, inr}
-use Prim.Native.Nat.{ℕ, ◌≤◌, ◌<◌}
+use Prim.Native.Nat.{ℕ, zero, suc, ◌≤◌, ◌<◌, min}
+use Rattle.std.specs.List.{fold}
 use native.Mathlib.Omega.{arith}
 use lib.ListN.{length, get_or}
 use lib.Seq.{get_or-take}
@@ -15,36 +16,28 @@ use Rattle.meaning.specs.Order.{reach, back}
 use Rattle.meaning.specs.Split.{cut}
 use Rattle.laws.specs.Bools.{and-true, on-true}
 use Rattle.laws.specs.Sums.{sum_term_le}
+use Rattle.method.specs.Question.{NoneBelow}
+use Rattle.method.specs.Floor.{Gathers}
 use Rattle.method.specs.Hang.{Hangs, hang_step}
-use Rattle.table.specs.Table.{Numbered}
-use Rattle.table.specs.Floor.{Squeezed, front, Stored, Smaller}
+use Rattle.table.specs.Floor.{front, Stored}
 use Rattle.table.specs.Degrees.{Degrees}
-use Rattle.table.specs.Hang.{Joins, Loose, Hung}
+use Rattle.table.specs.Hang.{Joins, Hung}
 use Rattle.table.specs.Kept.{Gathered}
-use Rattle.table.proofs.Storing.{row_room, few, rows_are, stored_cut, a_below, b_below, ends_apart, squeezed_stored, squeezed_gathers}
+use Rattle.table.proofs.Storing.{few, rows_are, stored_cut}
+
+-- the least of a number and a list is at most each of them
+pub fold_first : (best : ℕ) (l : List ℕ) → fold min best l ≤ best
+fold_first best [] = omega arith
+fold_first best (x ∷ l) = omega (arith, fold_first (min best x) l)
+
+pub fold_least : (best : ℕ) (l : List ℕ) (v : ℕ) → v < length l → fold min best l ≤ get_or l v 0
+fold_least best [] v h = absurd (omega arith)
+fold_least best (x ∷ l) zero h = omega (arith, fold_first (min best x) l)
+fold_least best (x ∷ l) (suc v) h = fold_least (min best x) l v (omega arith)
 
 module _ {n rows : ℕ} {a b w : List ℕ} (s : Stored n rows a b w) where
   abbrev L : LinkList
   L = front n rows a b w
-
-  -- what `hang` asks
-  pub loose : {deg to held : List ℕ} → length deg ≡ 128 → length to ≡ 128 → length held ≡ 128 → Numbered to
-      → ((v : ℕ) → v < 128 → get_or held v 0 ≡ 0) → Loose n rows a b w deg to held
-  loose deg-size to-size held_size numbers zeros =
-      record {
-        a_room = (row_room s).0;
-        b_room = (row_room s).1;
-        w_room = (row_room s).2;
-        deg_room = omega (arith, few s);
-        to_room = omega (arith, few s);
-        held_room = omega (arith, few s);
-        few = omega (arith, few s);
-        a_inside = a_below s;
-        b_inside = b_below s;
-        apart = ends_apart s;
-        own = λ v h. numbers v (omega (arith, few s));
-        bare = λ v h. zeros v (omega (arith, few s));
-      }
 
   -- a row between two nodes
   between : (r u v : ℕ) → r < rows → Joins a b r u v → get_or w r 0 ≤ back L (eqb v) u
@@ -79,15 +72,7 @@ module _ {n rows : ℕ} {a b w : List ℕ} (s : Stored n rows a b w) where
         }
 
     -- one node for each target
-    pub fastened : {best c left : ℕ} {name₀ name a' b' w' : List ℕ} → low ≤ best → Gathered n to name₀ name c
-        → Squeezed rows name a b w a' b' w' left → Smaller n rows best a b w a' b' w' (record { nodes = c; rows = left; best = low })
-    fastened {best} {c} {left} {name₀} {name} {a'} {b'} {w'} le gathered sq =
-        let some : 1 ≤ c = gathered.some s.accepted.some_node in
-        record {
-          stored = squeezed_stored s gathered.below some gathered.few sq;
-          fewer = gathered.few;
-          lower = le;
-          none = λ x under none.
-              hang_step L s.accepted x (λ v. get_or to v 0) (hangs x under) (front c left a' b' w') (λ v. get_or name v 0)
-              (squeezed_gathers s gathered.below some gathered.few sq) gathered.same none;
-        }
+    pub fastened : {c : ℕ} {name₀ name : List ℕ} (M : LinkList) → Gathered n to name₀ name c → Gathers L M (λ v. get_or name v 0)
+        → (x : ℕ) → x ≤ low → NoneBelow M x → NoneBelow L x
+    fastened {name = name} M gathered gathers x under =
+        hang_step L s.accepted x (λ v. get_or to v 0) (hangs x under) M (λ v. get_or name v 0) gathers gathered.same

@@ -76,7 +76,7 @@ module _ (L : LinkList) (live : ℕ → Bool) (n count start : ℕ) (m score₀ 
     fresh h = not-true (has o x) (and_right (live x) (not (has o x)) (run.unplaced h))
 
     -- a node's score with its place in row x
-    light : length o < count → (v : ℕ) → v < n → get_or score v 0 + get_or m (x * 128 + v) 0 < 2147483648
+    light : length o < count → (v : ℕ) → v < n → get_or score v 0 + get_or m (x * 128 + v) 0 < 4294967296
     light h v l =
         omega (
           arith,
@@ -193,8 +193,6 @@ module _ (L : LinkList) (live : ℕ → Bool) (n count start : ℕ) (m score₀ 
       record {
         few_nodes = ready.few_nodes;
         inside = run.inside;
-        table_size = ready.table.size;
-        score_size = run.size;
         marked = omega (arith, marked run h');
         light = light run h';
       }

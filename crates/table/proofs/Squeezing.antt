@@ -15,7 +15,7 @@ use borrow.Author.Tests.{eqb-true, eq-eqb}
 use Rattle.meaning.specs.Sums.{on, differ}
 use Rattle.laws.specs.Bools.{bool_cases, cases_eq, on-false, on_most, differ_self}
 use Rattle.laws.specs.Sums.{sum_none, sum-suc, sum_ext}
-use Rattle.table.specs.Floor.{across, new_end, RowPut, Squeezed}
+use Rattle.table.specs.Floor.{across, new_end, Squeezed}
 
 -- from place r on the list is as it was
 pub record Kept (r : ℕ) (l₀ l : List ℕ) : Type 0 where
@@ -179,8 +179,8 @@ module _ {r to : ℕ} {name a₀ b₀ w₀ a b w : List ℕ} (s : Squeezing r na
       ∙ omega (arith, s.done.same S, row))
       (bool_cases (eqb x y))
 
-  stored : Squeezing (r + 1) name a₀ b₀ w₀ (set a to x) (set b to y) (set w to z) next
-  stored =
+  pub squeezing_more : Squeezing (r + 1) name a₀ b₀ w₀ (set a to x) (set b to y) (set w to z) next
+  squeezing_more =
       record {
         done = record {
           a_size = length-set a to x ∙ s.kept_a.size;
@@ -195,6 +195,3 @@ module _ {r to : ℕ} {name a₀ b₀ w₀ a b w : List ℕ} (s : Squeezing r na
         kept_b = kept_more to y s.kept_b s.done.fewer;
         kept_w = kept_more to z s.kept_w s.done.fewer;
       }
-
-  pub squeezing_more : {a' b' w' : List ℕ} {to' : ℕ} → RowPut to r name a b w a' b' w' to' → Squeezing (r + 1) name a₀ b₀ w₀ a' b' w' to'
-  squeezing_more p = rw (p.put_a, p.put_b, p.put_w, p.count) stored

@@ -5,19 +5,19 @@ use mathlib.Core.Bool.{Bool}
 use mathlib.Core.List.{List}
 use Prim.Native.Nat.{ℕ, ◌≤◌, ◌<◌}
 use native.Mathlib.Omega.{arith}
-use lib.ListN.{length, get_or, take}
-use lib.Seq.{get_or-take, length-take-le}
-use Rattle.meaning.specs.Sums.{sum, on, differ, listed}
+use lib.ListN.{length, get_or, take, drop}
+use lib.Seq.{get_or-take, length-take-le, take-append_seam}
+use Rattle.meaning.specs.Sums.{sum, on, differ, laid}
 use Rattle.meaning.specs.Links.{LinkList, given, list_of, Accepted}
 use Rattle.meaning.specs.Order.{all, order_of, back_at, backs_of}
 use Rattle.meaning.specs.Split.{cut}
 use Rattle.laws.specs.Sums.{sum_ext}
-use Rattle.laws.specs.Lists.{length-laid, get_or-laid_new, get_or-listed, length-listed, listed-get_or, listed_ext}
+use Rattle.laws.specs.Lists.{length-laid, get_or-laid_new, get_or-listed, length-listed}
 use Rattle.laws.specs.Order.{length-prefix}
 use Rattle.laws.specs.Accept.{Even}
 use Rattle.method.specs.Floor.{Gathers}
 use Rattle.table.specs.Table.{Ran}
-use Rattle.table.specs.Floor.{Copied, across, Squeezed, front, Stored, Along, Shrinking}
+use Rattle.table.specs.Floor.{across, Squeezed, front, Stored, Along}
 
 -- ---- the first rows of three lists
 
@@ -127,39 +127,43 @@ module _ {n rows : ℕ} {a b w : List ℕ} (s : Stored n rows a b w) where
 
 -- ---- copied
 
--- a copy's front is what was copied
-copy_whole : {from to to' : List ℕ} → length from ≤ length to → Copied from to to' → take (length from) to' ≡ from
-copy_whole {from} {to} {to'} room c =
-    let k = length from in
-    sym (listed-get_or (take k to'))
-    ∙ ap (λ m. listed m (λ i. get_or (take k to') i 0)) (length-take-le k to' (omega (arith, c.size)))
-    ∙ listed_ext k (λ i. get_or (take k to') i 0) (λ i. get_or from i 0) (λ i h. get_or-take k to' i 0 h ∙ c.copied i h)
-    ∙ listed-get_or from
+-- a list that was laid at the front of three lists is the list that they store
+module _ {n : ℕ} {a b w : List ℕ} (x y z : List ℕ) (acc : Accepted (list_of (given n a b w))) (even : Even (given n a b w)) where
+  pub laid_front : front n (length a) (laid a x) (laid b y) (laid w z) ≡ list_of (given n a b w)
+  laid_front =
+      let same_b : take (length a) (laid b y) ≡ b = ap (λ k. take k (laid b y)) even.as_b ∙ take-append_seam b _ in
+      let same_w : take (length a) (laid w z) ≡ w = ap (λ k. take k (laid w z)) even.as_w ∙ take-append_seam w _ in
+      rw (take-append_seam a (drop (length a) x), same_b, same_w) refl
 
--- so the front of the copies is the list itself, and the search may begin
-module _ {n : ℕ} {a b w x₀ y₀ z₀ x y z : List ℕ} (acc : Accepted (list_of (given n a b w))) (even : Even (given n a b w))
-    (x-size : length x₀ ≡ 2048) (y-size : length y₀ ≡ 2048) (z-size : length z₀ ≡ 2048)
-    (cx : Copied a x₀ x) (cy : Copied b y₀ y) (cz : Copied w z₀ z) where
-  pub copies : front n (length a) x y z ≡ list_of (given n a b w)
-  copies =
-      let same_b : take (length a) y ≡ b = ap (λ k. take k y) even.as_b ∙ copy_whole (omega (arith, acc.few_rows, even.as_b)) cy in
-      let same_w : take (length a) z ≡ w = ap (λ k. take k z) even.as_w ∙ copy_whole (omega (arith, acc.few_rows, even.as_w)) cz in
-      rw (copy_whole (omega (arith, acc.few_rows)) cx, same_b, same_w) refl
-
-  pub copies_shrink : {order back : List ℕ} → 2 ≤ n → Along (list_of (given n a b w)) order back → Shrinking n (length a) x y z order back
-  copies_shrink {order} {back} two along =
+  pub laid_stored : length x ≡ 2048 → length y ≡ 2048 → length z ≡ 2048 → Stored n (length a) (laid a x) (laid b y) (laid w z)
+  laid_stored size_x size_y size_z =
       record {
-        stored =
-            record {
-              a_size = cx.size ∙ x-size;
-              b_size = cy.size ∙ y-size;
-              w_size = cz.size ∙ z-size;
-              few_rows = acc.few_rows;
-              accepted = subst Accepted (sym copies) acc;
-            };
-        many = two;
-        along = subst (λ L. Along L order back) (sym copies) along;
+        a_size = length-laid a x (omega (arith, acc.few_rows)) ∙ size_x;
+        b_size = length-laid b y (omega (arith, acc.few_rows, even.as_b)) ∙ size_y;
+        w_size = length-laid w z (omega (arith, acc.few_rows, even.as_w)) ∙ size_z;
+        few_rows = acc.few_rows;
+        accepted = subst Accepted (sym laid_front) acc;
       }
+
+-- one node with no rows is stored in any three lists
+pub one_stored : {a b w : List ℕ} → length a ≡ 2048 → length b ≡ 2048 → length w ≡ 2048 → Stored 1 0 a b w
+one_stored size_a size_b size_w =
+    record {
+      a_size = size_a;
+      b_size = size_b;
+      w_size = size_w;
+      few_rows = omega arith;
+      accepted = record {
+        some_node = omega arith;
+        few_nodes = omega arith;
+        few_rows = omega arith;
+        a_inside = λ r h. absurd (omega arith);
+        b_inside = λ r h. absurd (omega arith);
+        apart = λ r h e. absurd (omega arith);
+        weighty = λ r h. absurd (omega arith);
+        light = λ r h. absurd (omega arith);
+      };
+    }
 
 -- ---- ordered
 

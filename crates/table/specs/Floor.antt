@@ -1,19 +1,10 @@
--- What the functions under a floor promise, which make one node of each run of an order: a list copied, the runs named, a row renamed and
--- put in its place, the rows that are left, and the list that they are, with its order.
-use Rattle.std.specs.Prelude.{ℕ, suc, ◌+◌, ◌≤◌, ◌<◌, ◌≡◌, Bool, not, List, length, get_or, set, take, eqb}
+-- What the functions under a floor promise, which make one node of each run of an order: the runs named, the rows renamed that are left, and
+-- the list that they are, with its order.
+use Rattle.std.specs.Prelude.{ℕ, suc, ◌≤◌, ◌<◌, ◌≡◌, Bool, List, length, get_or, take}
 use Rattle.meaning.specs.Sums.{sum, on, differ}
 use Rattle.meaning.specs.Links.{LinkList, given, list_of, Accepted}
 use Rattle.meaning.specs.Order.{order_of, back_at}
-use Rattle.method.specs.Question.{NoneBelow}
 use Rattle.method.specs.Floor.{runs}
-use Rattle.table.specs.declared.Left.{Left}
-
--- ---- lists
-
--- what `from` holds stands at the front of `to`
-pub record Copied (from to to' : List ℕ) : Type 0 where
-  pub size : length to' ≡ length to
-  pub copied : (i : ℕ) → i < length from → get_or to' i 0 ≡ get_or from i 0
 
 -- ---- runs
 
@@ -32,13 +23,6 @@ across n S a b w = sum n (λ r. on (differ (S (get_or a r 0)) (S (get_or b r 0))
 -- the name of the end that row r has in the list l
 abbrev pub new_end : List ℕ → List ℕ → ℕ → ℕ
 new_end name l r = get_or name (get_or l r 0) 0
-
--- row r was put at the place `to` with its ends renamed; it stays where they differ
-pub record RowPut (to r : ℕ) (name a b w a' b' w' : List ℕ) (next : ℕ) : Type 0 where
-  pub put_a : a' ≡ set a to (new_end name a r)
-  pub put_b : b' ≡ set b to (new_end name b r)
-  pub put_w : w' ≡ set w to (get_or w r 0)
-  pub count : next ≡ to + on (not (eqb (new_end name a r) (new_end name b r))) 1
 
 -- the first `rows` rows with their ends renamed, without those whose ends became one: `left` rows
 pub record Squeezed (rows : ℕ) (name a b w a' b' w' : List ℕ) (left : ℕ) : Type 0 where
@@ -74,16 +58,3 @@ pub record Along (L : LinkList) (order back : List ℕ) : Type 0 where
   pub back_size : length back ≡ 128
   pub order_is : (p : ℕ) → p < L.nodes → get_or order p 0 ≡ get_or (order_of L 0) p 0
   pub back_is : (p : ℕ) → p < L.nodes → get_or back p 0 ≡ back_at L (order_of L 0) p
-
--- a stored list of two or more nodes, and its order
-pub record Shrinking (n rows : ℕ) (a b w order back : List ℕ) : Type 0 where
-  pub stored : Stored n rows a b w
-  pub many : 2 ≤ n
-  pub along : Along (front n rows a b w) order back
-
--- a stored list with fewer nodes, or as many; what no division of it is below, up to its `best`, no division of the given list is below
-pub record Smaller (n rows best : ℕ) (a b w a' b' w' : List ℕ) (r : Left) : Type 0 where
-  pub stored : Stored r.nodes r.rows a' b' w'
-  pub fewer : r.nodes ≤ n
-  pub lower : r.best ≤ best
-  pub none : (x : ℕ) → x ≤ r.best → NoneBelow (front r.nodes r.rows a' b' w') x → NoneBelow (front n rows a b w) x

@@ -11,6 +11,10 @@ own to u = eqb (get_or to u 0) u
 abbrev pub kept_below : List ℕ → ℕ → ℕ
 kept_below to v = size_of v (own to)
 
+-- each of the first `count` nodes has a target among them that is its own target
+abbrev pub Settled : ℕ → List ℕ → Type 0
+Settled count to = (v : ℕ) → v < count → (get_or to v 0 < count) × (get_or to (get_or to v 0) 0 ≡ get_or to v 0)
+
 -- each of the first `count` nodes has the number of nodes before it that are their own target; c of all are
 pub record KeptNumbered (count : ℕ) (to name name' : List ℕ) (c : ℕ) : Type 0 where
   pub size : length name' ≡ length name

@@ -3,3 +3,4 @@ pub mod Floor
 pub mod Degrees
 pub mod Hang
 pub mod Kept
+pub mod Rest

@@ -1,5 +1,5 @@
 -- The dense table of a list's cables, what a run of the order needs to begin, and what each function of the crate leaves.
-use Rattle.std.specs.Prelude.{ℕ, zero, suc, ◌+◌, ◌-◌, ◌*◌, ◌≤◌, ◌<◌, ◌≡◌, Bool, true, not, ◌||◌, List, length, get_or, eqb}
+use Rattle.std.specs.Prelude.{ℕ, ◌+◌, ◌-◌, ◌*◌, ◌≤◌, ◌<◌, ◌≡◌, Bool, true, not, List, length, get_or, eqb}
 use Rattle.meaning.specs.Sums.{on, laid}
 use Rattle.meaning.specs.Links.{LinkList}
 use Rattle.meaning.specs.Order.{reach, back, prefix, backs_of}
@@ -62,23 +62,16 @@ pub record Added (n : ℕ) (row score score' : List ℕ) (top : ℕ) : Type 0 wh
   pub most : (v : ℕ) → v < n → get_or score' v 0 ≤ top
   pub reached : 0 < n → (v : ℕ) × (v < n) × (get_or score' v 0 ≡ top)
 
--- whether one of the scores from v to v + k is `top`
-abbrev pub among : List ℕ → ℕ → ℕ → ℕ → Bool
-among score top v zero = eqb (get_or score v 0) top
-among score top v (suc k) = among score top v k || eqb (get_or score (v + suc k) 0) top
-
 -- no node before v has the score `top`
 abbrev pub NoneBefore : List ℕ → ℕ → ℕ → Type 0
 NoneBefore score top v = (u : ℕ) → u < v → get_or score u 0 ≡ top → ⊥
 
--- x may be placed: it has its mark, and every score stays below 2^31 when x's row is added
+-- x may be placed: it has its mark, and every score still fits when x's row is added
 pub record Placeable (n x : ℕ) (m score : List ℕ) : Type 0 where
   pub few_nodes : n ≤ 128
   pub inside : x < n
-  pub table_size : length m ≡ 16384
-  pub score_size : length score ≡ 128
   pub marked : mark ≤ get_or score x 0
-  pub light : (v : ℕ) → v < n → get_or score v 0 + cell_at m x v < 2147483648
+  pub light : (v : ℕ) → v < n → get_or score v 0 + cell_at m x v < 4294967296
 
 -- x lost its mark and its row was added; among the first n scores r is the first of the highest
 pub record Placed (n x : ℕ) (m score score' : List ℕ) (r : ℕ) : Type 0 where

@@ -1,4 +1,4 @@
 pub mod Shortening
 pub mod Numbers
-pub mod Call
 pub mod Same
+pub mod Call

@@ -29,7 +29,7 @@ map-those (suc n) t u f h e d =
 
 module _ (g : Given) (o : List ℕ) (k : ℕ) (firsts old : List ℕ) (is : firsts ≡ laid (firsts_of (list_of g) o) old) where
   -- each row's kept weight
-  kept_at_lem : (r : ℕ) → r < length g.la → kept_at k firsts g.lw r ≡ kept (list_of g) o k r
+  kept_at_lem : (r : ℕ) → r < length g.la → kept_at k firsts (list_of g) r ≡ kept (list_of g) o k r
   kept_at_lem r h =
       ap
       (λ f. kept_of k f (get_or g.lw r 0))
@@ -37,21 +37,21 @@ module _ (g : Given) (o : List ℕ) (k : ℕ) (firsts old : List ℕ) (is : firs
       ∙ get_or-laid_new (firsts_of (list_of g) o) old r (omega (arith, length-listed (length g.la) (first (list_of g) o)))
       ∙ get_or-listed (length g.la) (first (list_of g) o) r h)
 
-  pub kepts : listed (length g.la) (kept_at k firsts g.lw) ≡ kepts_of (list_of g) o k
-  kepts = listed_ext (length g.la) (kept_at k firsts g.lw) (kept (list_of g) o k) kept_at_lem
+  pub kepts : listed (length g.la) (kept_at k firsts (list_of g)) ≡ kepts_of (list_of g) o k
+  kepts = listed_ext (length g.la) (kept_at k firsts (list_of g)) (kept (list_of g) o k) kept_at_lem
 
   -- the rows that stay, by any of their numbers
   pub stays-map : (f h : ℕ → ℕ) → ((r : ℕ) → r < length g.la → f r ≡ h r)
-      → map f (stays_in k firsts g.lw (length g.la)) ≡ map h (stays (list_of g) o k)
+      → map f (stays_in k firsts (list_of g) (length g.la)) ≡ map h (stays (list_of g) o k)
   unfolding stays
   stays-map f h =
       map-those
       (length g.la)
-      (λ r. ltb 0 (kept_at k firsts g.lw r))
+      (λ r. ltb 0 (kept_at k firsts (list_of g) r))
       (λ r. ltb 0 (kept (list_of g) o k r))
       f
       h
       (λ r l. ap (ltb 0) (kept_at_lem r l))
 
-  pub stays_weights : map (kept_at k firsts g.lw) (stays_in k firsts g.lw (length g.la)) ≡ map (kept (list_of g) o k) (stays (list_of g) o k)
-  stays_weights = stays-map (kept_at k firsts g.lw) (kept (list_of g) o k) kept_at_lem
+  pub stays_weights : map (kept_at k firsts (list_of g)) (stays_in k firsts (list_of g) (length g.la)) ≡ map (kept (list_of g) o k) (stays (list_of g) o k)
+  stays_weights = stays-map (kept_at k firsts (list_of g)) (kept (list_of g) o k) kept_at_lem

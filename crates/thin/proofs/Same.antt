@@ -1,10 +1,10 @@
 -- The short list answers as the full one, at the level of the code: what `short` wrote, handed to `fewer` with its k, gives the number, place
 -- and value that `fewer` gives on the list itself. What was written is the short list of `meaning`, of which the crate `thinning` proves it.
 use Prim.Native.Nat.{ℕ}
+use Rattle.std.specs.Prelude.{Result, Ok}
 use mathlib.Core.Path.{◌≡◌, refl, sym, ap, ◌∙◌, subst₂}
 use mathlib.Core.Bool.{false}
 use mathlib.Core.List.{List, [], ◌∷◌}
-use native.Mathlib.Omega.{arith}
 use lib.ListN.{length, take, length-map}
 use lib.Seq.{take_at}
 use lib.Dec.{eqb}
@@ -15,24 +15,22 @@ use Rattle.meaning.specs.Calls.{order0, short_check, short_given, fewer_answer}
 use Rattle.laws.specs.Accept.{Words, then_left}
 use Rattle.thinning.specs.Same.{SameForK, short_answers}
 use Rattle.answers.specs.Paper.{parted_paper}
-use Rattle.answers.specs.declared.Wrote.{Wrote}
-use Rattle.answers.specs.declared.Parted.{Parted}
-use Rattle.lists.proofs.Passed.{passed}
+use Rattle.answers.specs.declared.Refusal.{Refusal}
+use Rattle.answers.specs.declared.Split.{Split}
+use Rattle.lists.proofs.Checks.{passed_roomy}
 use Rattle.thin.specs.Thin.{ShortList}
 
 -- a call that answers 0 found nothing, and gives its fields
 answered_done : (c : Check) (m n : ℕ) → done (m ∷ []) ≡ answered c (n ∷ []) → (c ≡ fine) × (m ≡ n)
 answered_done fine m n e = (refl, cc)
-answered_done (bad num at) m n e = absurd (let z : ◌≡◌ {A = ℕ} 0 1 = cc in omega arith)
+answered_done (bad num at) m n e = cc
 
-module _ (g : Given) (k : ℕ) {a b w a' b' w' : List ℕ} {m : ℕ} (s : ShortList g k a b w (Wrote.Many m) a' b' w') where
+module _ (g : Given) (k : ℕ) {a b w a' b' w' : List ℕ} {m : ℕ} (s : ShortList g k a b w (Ok m) a' b' w') where
   told : (short_check g k (length a) (length b) (length w) ≡ fine) × (m ≡ length (short_given g k).la)
   told = answered_done (short_check g k (length a) (length b) (length w)) m (length (short_given g k).la) s.answer
 
   list_fine : list_check g false ≡ fine
-  list_fine =
-      let ok = then_left (list_check g _) (when (eqb k 0) zero_k 0) told.0 in
-      ap (list_check g) (sym (passed g _ ok).roomy) ∙ ok
+  list_fine = passed_roomy g _ (then_left (list_check g _) (when (eqb k 0) zero_k 0) told.0)
 
   -- the front of a lent list
   front : (new old l : List ℕ) → l ≡ after (short_check g k (length a) (length b) (length w)) new old → length new ≡ m → take m l ≡ new
@@ -50,7 +48,7 @@ module _ (g : Given) (k : ℕ) {a b w a' b' w' : List ℕ} {m : ℕ} (s : ShortL
       rw (ea, eb, ew)
 
   -- the question for k, asked of what was written and of the list
-  pub short_same : Words g → (p q : Parted)
+  pub short_same : Words g → (p q : Result Split Refusal)
       → parted_paper p ≡ fewer_answer (given g.n (take m a') (take m b') (take m w')) k
       → parted_paper q ≡ fewer_answer g k
       → SameForK (parted_paper p) (parted_paper q)

@@ -1,39 +1,43 @@
--- What the passes of `thin` leave, for rows whose first forest numbers stand in a list.
+-- What the passes of `thin` leave, for a list whose first forest numbers stand in a list of their own.
 use Rattle.std.specs.Prelude.{ℕ, ◌+◌, ◌≤◌, ◌≡◌, cond, List, map, length, get_or, set, ltb}
 use Rattle.meaning.specs.Sums.{on, those, laid}
+use Rattle.meaning.specs.Links.{LinkList}
 use Rattle.meaning.specs.Forest.{kept_of}
+use Rattle.lists.specs.declared.Row.{Row}
+use Rattle.lists.specs.declared.Columns.{Columns}
 
 -- the kept weight of row r
-abbrev pub kept_at : ℕ → List ℕ → List ℕ → ℕ → ℕ
-kept_at k firsts w r = kept_of k (get_or firsts r 0) (get_or w r 0)
+abbrev pub kept_at : ℕ → List ℕ → LinkList → ℕ → ℕ
+kept_at k firsts L r = kept_of k (get_or firsts r 0) (L.w r)
+
+-- row r with its kept weight
+abbrev pub thinned : ℕ → List ℕ → LinkList → ℕ → Row
+thinned k firsts L r = record { a = L.a r; b = L.b r; w = kept_at k firsts L r }
 
 -- the rows below n that keep something
-abbrev pub stays_in : ℕ → List ℕ → List ℕ → ℕ → List ℕ
-stays_in k firsts w n = those n (λ r. ltb 0 (kept_at k firsts w r))
+abbrev pub stays_in : ℕ → List ℕ → LinkList → ℕ → List ℕ
+stays_in k firsts L n = those n (λ r. ltb 0 (kept_at k firsts L r))
 
--- v was put at a place where it is not 0
+-- three lent lists have a place for n rows
+pub record Roomy (n : ℕ) (out : Columns) : Type 0 where
+  pub room_a : n ≤ length out.a.now
+  pub room_b : n ≤ length out.b.now
+  pub room_w : n ≤ length out.w.now
+
+-- v was put at a place where the weight is not 0
 abbrev pub put_at : List ℕ → ℕ → ℕ → ℕ → List ℕ
-put_at l at v x = cond (ltb 0 v) (set l at x) l
+put_at l at weight v = cond (ltb 0 weight) (set l at v) l
 
--- a row that keeps v was put at the end of the short list
-pub record Put (at v x y : ℕ) (a a' b b' w w' : List ℕ) (r : ℕ) : Type 0 where
-  pub count : r ≡ at + on (ltb 0 v) 1
-  pub put_a : a' ≡ put_at a at v x
-  pub put_b : b' ≡ put_at b at v y
-  pub put_w : w' ≡ put_at w at v v
+-- a row was put at the end of the short list, unless it keeps nothing
+pub record Put (row : Row) (at : ℕ) (out out' : Columns) (r : ℕ) : Type 0 where
+  pub count : r ≡ at + on (ltb 0 row.w) 1
+  pub put_a : out'.a.now ≡ put_at out.a.now at row.w row.a
+  pub put_b : out'.b.now ≡ put_at out.b.now at row.w row.b
+  pub put_w : out'.w.now ≡ put_at out.w.now at row.w row.w
 
--- three lists of one length, with a first number and a place in each list for every row
-pub record Shortenable (a b w firsts a₀ b₀ w₀ : List ℕ) : Type 0 where
-  pub same_b : length a ≡ length b
-  pub same_w : length a ≡ length w
-  pub numbered : length a ≤ length firsts
-  pub room_a : length a ≤ length a₀
-  pub room_b : length a ≤ length b₀
-  pub room_w : length a ≤ length w₀
-
--- the rows that stay, laid at the front of three lists
-pub record Shortened (k : ℕ) (firsts a b w : List ℕ) (n : ℕ) (a₀ a₁ b₀ b₁ w₀ w₁ : List ℕ) (r : ℕ) : Type 0 where
-  pub count : r ≡ length (stays_in k firsts w n)
-  pub laid_a : a₁ ≡ laid (map (λ j. get_or a j 0) (stays_in k firsts w n)) a₀
-  pub laid_b : b₁ ≡ laid (map (λ j. get_or b j 0) (stays_in k firsts w n)) b₀
-  pub laid_w : w₁ ≡ laid (map (kept_at k firsts w) (stays_in k firsts w n)) w₀
+-- those of the first n rows that stay, laid at the front of three lists
+pub record Shortened (k : ℕ) (firsts : List ℕ) (L : LinkList) (n : ℕ) (out out' : Columns) (r : ℕ) : Type 0 where
+  pub count : r ≡ length (stays_in k firsts L n)
+  pub laid_a : out'.a.now ≡ laid (map L.a (stays_in k firsts L n)) out.a.now
+  pub laid_b : out'.b.now ≡ laid (map L.b (stays_in k firsts L n)) out.b.now
+  pub laid_w : out'.w.now ≡ laid (map (kept_at k firsts L) (stays_in k firsts L n)) out.w.now

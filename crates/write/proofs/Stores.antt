@@ -1,48 +1,47 @@
--- Stores one after the other are the stores of the whole: the bytes of the kind 1 record, of each row and of the trailer, stored from place to place,
--- lay the list's file at the front of the lent bytes.
-use Prim.Native.Nat.{ℕ, suc, ◌+◌, ◌-◌, ◌*◌, ◌/◌, ◌≤◌}
-use mathlib.Core.Path.{◌≡◌, sym, ap, ◌∙◌}
-use mathlib.Core.List.{List, [], ◌∷◌, ◌++◌}
-use native.Mathlib.Omega.{arith}
+-- Records stored one after the other lie at the front of the lent bytes, as the file does.
+use Prim.Native.Nat.{ℕ, ◌+◌, ◌*◌}
+use mathlib.Core.Path.{◌≡◌, refl, sym, ap, ◌∙◌}
+use mathlib.Core.List.{List, ◌∷◌, ◌++◌, append_assoc}
 use native.Mathlib.Numerals.{add-one}
-use lib.ListN.{length, drop, set}
-use lib.Dec.{ltb}
-use lib.Seq.{sets, sets-eq}
-use borrow.Author.Tests.{lt-ltb, ltb-true}
+use native.Mathlib.Omega.{arith}
+use lib.ListN.{length, drop, length-append}
+use borrow.Rule.Slice.PartMut.{put_mid}
+use Rattle.std.proofs.lemmas.List.{take_at, drop_at, drop-drop}
 use Rattle.meaning.specs.Sums.{laid}
 use Rattle.meaning.specs.Links.{LinkList}
-use Rattle.meaning.specs.File.{bytes16, row_bytes, rows_bytes, trailer_bytes, file_of, file_bytes}
-use Rattle.laws.specs.Bools.{same_test}
-use Rattle.roundtrip.specs.Layout.{length_rows, length_file}
+use Rattle.meaning.specs.File.{bytes16, row_bytes, rows_bytes, trailer_bytes, file_of}
+use Rattle.roundtrip.specs.Layout.{length_rows}
 
-sets_append : (xs ys l : List ℕ) (i : ℕ) → sets l i (xs ++ ys) ≡ sets (sets l i xs) (i + length xs) ys
-sets_append [] ys l i = let here : i + 0 ≡ i = omega arith in rw here
-sets_append (x ∷ xs) ys l i =
-    let next : i + suc (length xs) ≡ suc i + length xs = omega arith in
-    rw next (sets_append xs ys (set l i x) (suc i))
+-- the bytes x, stored after those that are laid
+laid_on : (new x old : List ℕ) (at k : ℕ) → length new ≡ at → length x ≡ k → put_mid at k (laid new old) x ≡ laid (new ++ x) old
+laid_on new x old at k here all =
+    let past : drop (at + k) old ≡ drop (length (new ++ x)) old = rw (length-append new x, here, all) refl in
+    rw (take_at new (drop (length new) old) at here, drop_at new (drop (length new) old) at here, here, drop-drop k at old, past, append_assoc new x (drop (length (new ++ x)) old)) refl
+
+-- the kind 1 record and those of the first r rows
+abbrev pub begun : LinkList → ℕ → List ℕ
+begun L r = 4 ∷ 1 ∷ (bytes16 L.nodes ++ rows_bytes L r)
+
+length_begun : (L : LinkList) (r : ℕ) → length (begun L r) ≡ 4 + 8 * r
+length_begun L r = omega (arith, length_rows L r)
+
+-- no row yet
+pub begun_none : (L : LinkList) (old : List ℕ) → (4 ∷ 1 ∷ bytes16 L.nodes) ++ drop 4 old ≡ laid (begun L 0) old
+unfolding rows_bytes
+begun_none L old = refl
 
 -- one row more
-pub rows_more : (L : LinkList) (r : ℕ) (old : List ℕ) → sets (sets old 4 (rows_bytes L r)) (4 + 8 * r) (row_bytes L r) ≡ sets old 4 (rows_bytes L (r + 1))
+pub begun_more : (L : LinkList) (r k : ℕ) (old : List ℕ) → k ≡ 8
+    → put_mid (4 + 8 * r) k (laid (begun L r) old) (row_bytes L r) ≡ laid (begun L (r + 1)) old
 unfolding rows_bytes
-rows_more L r old = rw (add-one, sets_append (rows_bytes L r) (row_bytes L r) old 4, length_rows L r)
+begun_more L r k old eight =
+    laid_on (begun L r) (row_bytes L r) old (4 + 8 * r) k (length_begun L r) (sym eight)
+    ∙ ap (λ (m : ℕ). laid (begun L m) old) (sym (add-one r))
 
--- all stores of a file
-pub file_laid : (L : LinkList) (old : List ℕ) → 12 + 8 * L.rows ≤ length old
-    → sets (sets (sets (sets old 0 (4 ∷ 1 ∷ [])) 2 (bytes16 L.nodes)) 4 (rows_bytes L L.rows)) (4 + 8 * L.rows) (trailer_bytes L.rows) ≡ laid (file_of L) old
+-- and the trailer: the whole file
+pub begun_all : (L : LinkList) (r k : ℕ) (old : List ℕ) → r ≡ L.rows → k ≡ 8
+    → put_mid (4 + 8 * L.rows) k (laid (begun L r) old) (trailer_bytes L.rows) ≡ laid (file_of L) old
 unfolding file_of
-file_laid L old room =
-    let from : 0 + length (file_of L) ≡ length (file_of L) = omega arith in
-    let front = sets (sets old 0 (4 ∷ 1 ∷ [])) 2 (bytes16 L.nodes) in
-    ap (λ k. sets (sets front 4 (rows_bytes L L.rows)) (4 + k) (trailer_bytes L.rows)) (sym (length_rows L L.rows))
-    ∙ sym (sets_append (rows_bytes L L.rows) (trailer_bytes L.rows) front 4)
-    ∙ sets-eq (file_of L) old 0 (omega (arith, length_file L))
-    ∙ ap (λ k. file_of L ++ drop k old) from
-
--- ---- the room
-
--- the room past the first 12 bytes, in eights
-pub room_eights : (room rows : ℕ) → 12 ≤ room → ltb ((room - 12) / 8) rows ≡ ltb room (file_bytes rows)
-room_eights room rows h =
-    same_test (ltb ((room - 12) / 8) rows) (ltb room (file_bytes rows))
-    (λ e. lt-ltb room (file_bytes rows) (omega (arith, ltb-true ((room - 12) / 8) rows e)))
-    (λ e. lt-ltb ((room - 12) / 8) rows (omega (arith, ltb-true room (file_bytes rows) e)))
+begun_all L r k old all eight =
+    ap (λ (m : ℕ). put_mid (4 + 8 * L.rows) k (laid (begun L m) old) (trailer_bytes L.rows)) all
+    ∙ laid_on (begun L L.rows) (trailer_bytes L.rows) old (4 + 8 * L.rows) k (length_begun L L.rows) (sym eight)

@@ -3,98 +3,76 @@
 // The list is checked whole before the first byte is stored, by the one check of the project.
 #![tactic(auto)]
 
-ghost use Rattle.std.specs.Prelude.{◌≡◌, [], ◌∷◌, ◌++◌, ℕ, ◌+◌, ◌*◌, ◌≤◌, length, ltb};
-ghost use Rattle.std.proofs.lemmas.List.Edits.{sets};
+ghost use Rattle.std.specs.Prelude.{◌≡◌, ◌∷◌, ◌++◌, ◌≤◌, length, ltb};
 ghost use Rattle.meaning.specs.Sums.{laid};
-ghost use Rattle.meaning.specs.Links.{given, list_of};
-ghost use Rattle.meaning.specs.File.{bytes16, trailer_bytes, rows_bytes, file_of, file_bytes};
+ghost use Rattle.meaning.specs.File.{bytes16, trailer_bytes, file_of, file_bytes};
 ghost use Rattle.roundtrip.specs.Promises.{Writes};
+ghost use Rattle.lists.specs.Given.{given_by, list_by};
 
-use answers::{Told, Wrote};
+use answers::Refusal;
+use lists::{Checked, Links, Row};
 
 // Whether the file of so many rows does not fit. Asked without adding, since 8 x rows need not fit a number.
 fn too_short(room: usize, rows: usize) -> bool
     ensures { result ≡ ltb room (file_bytes rows) }
 {
-    if room < 12 {
-        return true;
-    }
-    (room - 12) / 8 < rows
+    room.checked_sub(12).is_none_or(|rest| rest / 8 < rows)
 }
 
-// Two bytes.
-fn put2(out: &mut [u8], at: usize, x: u8, y: u8)
-    requires { at + 2 ≤ length out.old }
-    ensures { out.new ≡ sets out.old at (x ∷ y ∷ []) }
+// The kind 1 record.
+fn nodes_record(n: u16) -> [u8; 4]
+    ensures { result ≡ 4 ∷ 1 ∷ bytes16 n }
 {
-    out[at] = x;
-    out[at + 1] = y;
-}
-
-// A number in two bytes, little-endian.
-fn put16(out: &mut [u8], at: usize, x: u16)
-    requires { at + 2 ≤ length out.old }
-    ensures { out.new ≡ sets out.old at (bytes16 x) }
-{
-    put2(out, at, (x % 256) as u8, (x / 256) as u8);
+    let [low, high] = n.to_le_bytes();
+    [4, 1, low, high]
 }
 
 // The record of a row.
-fn put_row(out: &mut [u8], at: usize, a: u16, b: u16, w: u16)
-    requires { at + 8 ≤ length out.old }
-    ensures { out.new ≡ sets out.old at (8 ∷ 2 ∷ (bytes16 a ++ (bytes16 b ++ bytes16 w))) }
+fn row_record(row: Row) -> [u8; 8]
+    ensures { result ≡ 8 ∷ 2 ∷ (bytes16 row.a ++ (bytes16 row.b ++ bytes16 row.w)) }
 {
-    put2(out, at, 8, 2);
-    put16(out, at + 2, a);
-    put16(out, at + 4, b);
-    put16(out, at + 6, w);
-}
-
-// The records of all rows, after the kind 1 record.
-fn put_rows(out: &mut [u8], a: &[u16], b: &[u16], w: &[u16])
-    requires { (length a.now ≡ length b.now) × ((length a.now ≡ length w.now) × (12 + 8 * length a.now ≤ length out.old)) }
-    ensures { (n : ℕ) → out.new ≡ sets out.old 4
-        (rows_bytes (list_of (given n a.now b.now w.now)) (length a.now)) }
-{
-    let mut r = 0;
-    while r < a.len() {
-        put_row(out, 4 + 8 * r, a[r], b[r], w[r]);
-        r += 1;
-    }
+    let a = row.a.to_le_bytes();
+    let b = row.b.to_le_bytes();
+    let w = row.w.to_le_bytes();
+    [8, 2, a[0], a[1], b[0], b[1], w[0], w[1]]
 }
 
 // The trailer: start 0, the row count, the mark.
-fn put_trailer(out: &mut [u8], at: usize, rows: u16)
-    requires { at + 8 ≤ length out.old }
-    ensures { out.new ≡ sets out.old at (trailer_bytes rows) }
+fn trailer(rows: u16) -> [u8; 8]
+    ensures { result ≡ trailer_bytes rows }
 {
-    put16(out, at, 0);
-    put16(out, at + 2, 0);
-    put16(out, at + 4, rows);
-    put2(out, at + 6, 0x4C, 0x54);
+    let [low, high] = rows.to_le_bytes();
+    [0, 0, 0, 0, low, high, b'L', b'T']
 }
 
-// The whole file of a list that was accepted.
-fn put_file(out: &mut [u8], n: u16, a: &[u16], b: &[u16], w: &[u16])
-    requires { (length a.now ≡ length b.now) × ((length a.now ≡ length w.now) × ((length a.now ≤ 2048) × (12 + 8 * length a.now ≤ length out.old))) }
-    ensures { out.new ≡ laid (file_of (list_of (given n a.now b.now w.now))) out.old }
+// The whole file of a list, where there is room for it; answers its size. The rows go by their places, since the library does not say
+// what a slice holds after its chunks (`as_chunks_mut`) were written.
+#[tactic(auto, using(lists::proofs::Passed::accepted))]
+fn put_file(list: &Checked<'_>, out: &mut [u8]) -> usize
+    requires room { file_bytes (length list.now.links.a.now) ≤ length out.old }
+    ensures size { result ≡ file_bytes (length list.now.links.a.now) }
+    ensures stored { out.new ≡ laid (file_of (list_by list.now.links)) out.old }
 {
-    put2(out, 0, 4, 1);
-    put16(out, 2, n);
-    put_rows(out, a, b, w);
-    put_trailer(out, 4 + 8 * a.len(), a.len() as u16);
+    let Links { n, a, b, w } = list.links;
+    out[..4].copy_from_slice(&nodes_record(n as u16));
+    for r in 0..a.len() {
+        let row = Row {
+            a: a[r],
+            b: b[r],
+            w: w[r],
+        };
+        let at = 4 + 8 * r;
+        out[at..at + 8].copy_from_slice(&row_record(row));
+    }
+    let end = 4 + 8 * a.len();
+    out[end..end + 8].copy_from_slice(&trailer(a.len() as u16));
+    end + 8
 }
 
 // Writes the file of a list into lent bytes: its size, or a refusal that leaves the bytes alone.
-pub fn write(n: u32, a: &[u16], b: &[u16], w: &[u16], out: &mut [u8]) -> Wrote
-    ensures { Writes (given n a.now b.now w.now) out.old result out.new }
+pub fn write(links: &Links<'_>, out: &mut [u8]) -> Result<usize, Refusal>
+    ensures { Writes (given_by links.now) out.old result out.new }
 {
-    let told = lists::check(n, a, b, w, too_short(out.len(), a.len()));
-    match told {
-        Told::Refused(num, place) => Wrote::Refused(num, place),
-        Told::Done => {
-            put_file(out, n as u16, a, b, w);
-            Wrote::Many(12 + 8 * a.len())
-        }
-    }
+    let list = links.check(too_short(out.len(), links.a.len()))?;
+    Ok(put_file(&list, out))
 }

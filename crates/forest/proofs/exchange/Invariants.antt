@@ -5,6 +5,6 @@ use Rattle.forest.proofs.exchange.Given as goal
 
 abbrev pub invariant-loop-y : goal.invariant-loop-y
 invariant-loop-y l = record {
-  row : Upto (λ v. get_or l.fn.acc v 0) l.y l.fn.row l.row;
-  acc : Upto (λ v. get_or l.fn.acc v 0 + get_or l.fn.row v 0) l.y l.fn.acc l.acc;
+  row : Upto (λ v. get_or l.fn.sums v 0) l.y l.fn.row l.row;
+  sums : Upto (λ v. get_or l.fn.sums v 0 + get_or l.fn.row v 0) l.y l.fn.sums l.sums;
 }

@@ -1,36 +1,39 @@
--- `summary` meets its contract: a refusal is the list check's, and a list that passed has its three counts from what `links_in` and
--- `pairs_in` ensure.
-use Rattle.std.proofs.Common.{ℕ, ◌≡◌, false, [], ◌∷◌, length, get_or, arith}
-use Rattle.meaning.specs.Sums.{sum}
+-- A list that passed has its links and pairs from what `links_in` and `pairs_in` ensure, by place (`total_by_place`, `count_by_place`).
+use Rattle.std.proofs.Common.{◌≡◌, ◌≤◌, ◌∙◌, ℕ, [], ◌∷◌, Bool, false, length, eqb, arith, sym}
+use Rattle.std.specs.List.{count_by, range_with_len, sum as total}
+use Rattle.std.proofs.lemmas.List.FromFn.{length-range_with_len}
+use Rattle.std.proofs.lemmas.List.Sums.{count_by-le-length}
 use Rattle.meaning.specs.Numbers.{fine, done}
-use Rattle.meaning.specs.Links.{Given, given, list_of, pairs, list_check}
+use Rattle.meaning.specs.Links.{Given, list_of, same_before, pairs, list_check}
 use Rattle.meaning.specs.Calls.{summary_answer}
-use Rattle.lists.proofs.Checks.{found_fine}
+use Rattle.lists.specs.Given.{given_by}
 use Rattle.lists.proofs.Passed.{passed}
+use Rattle.summary.proofs.Counts.{total_by_place, count_by_place}
 use Rattle.summary.proofs.summary.Goals as goal
 
+-- row r has none like it before
+abbrev new : Given → ℕ → Bool
+new g r = eqb (same_before (list_of g) r) 0
+
+-- what `pairs_in` counts is no more than the rows
+few : (g : Given) {p : ℕ} → list_check g false ≡ fine → p ≡ count_by (new g) (range_with_len 0 (length g.la)) → p ≤ 2048
+few g passes counts =
+    let good = passed g false passes in
+    omega (arith, count_by-le-length (new g) (range_with_len 0 (length g.la)), length-range_with_len 0 (length g.la))
+
 -- the answer for a list that passed
-totals : (g : Given) {l p : ℕ} → list_check g false ≡ fine → length g.la ≡ length g.lw
-    → l ≡ sum (length g.lw) (λ r. get_or g.lw r 0)
-    → p ≡ pairs (list_of (given 0 g.la g.lb []))
-    → done (g.n ∷ length g.la ∷ l ∷ p ∷ []) ≡ summary_answer g
+totals : (g : Given) {l p : ℕ} → list_check g false ≡ fine → l ≡ total g.lw
+    → p ≡ count_by (new g) (range_with_len 0 (length g.la)) → done (g.n ∷ length g.la ∷ l ∷ p ∷ []) ≡ summary_answer g
 unfolding pairs
-totals g passes same adds counts = rw (adds, counts, ← same, passes)
+totals g passes adds counts =
+    rw (adds ∙ total_by_place g.lw, counts ∙ count_by_place (new g) (length g.la), ← (passed g false passes).even.as_w, passes)
 
-pub links_in-requires : goal.links_in-requires
-links_in-requires c =
-    let g = given c.args.n c.args.a.now c.args.b.now c.args.w.now in
-    let good = passed g false (found_fine c.check.result c.check.ensures c.in_default.is) in
-    omega arith
-
-pub pairs_in-requires : goal.pairs_in-requires
-pairs_in-requires c =
-    let g = given c.args.n c.args.a.now c.args.b.now c.args.w.now in
-    let good = passed g false (found_fine c.check.result c.check.ensures c.in_default.is) in
+pub overflow_cast-result : goal.overflow_cast-result
+overflow_cast-result c =
+    let bound = few (given_by c.args.links.now) (sym c.in_ok-list.ensures.found) (rw c.in_ok-list.ensures.same at c.pairs_in.ensures) in
     omega arith
 
 pub returns : goal.returns
 returns c =
-    let g = given c.args.n c.args.a.now c.args.b.now c.args.w.now in
-    let fine = found_fine c.check.result c.check.ensures c.in_default.is in
-    totals g fine (passed g false fine).even.as_w c.links_in.ensures c.pairs_in.ensures
+    totals (given_by c.args.links.now) (sym c.in_ok-list.ensures.found) c.links_in.ensures
+    (rw c.in_ok-list.ensures.same at c.pairs_in.ensures)

@@ -1,11 +1,10 @@
--- The loop's invariant: no node passed has the score, as `skip` says of the nodes that it passed; so where some node has it, either the node
--- looked at has it, or it is the last node, the only one left. The measure is what is left of the n nodes.
-use Rattle.std.proofs.Common.{◌-◌, ◌<◌}
+-- The loop's invariant: no node of the blocks passed has the score. So, as some node has it, a block is left; the measure is what is left.
+use Rattle.std.proofs.Common.{◌≡◌, ◌<◌, ◌-◌, ◌%◌}
 use Rattle.table.specs.Table.{NoneBefore}
 use Rattle.table.proofs.first_of.Given as goal
 
 abbrev pub invariant-loop-v : goal.invariant-loop-v
-invariant-loop-v l = (l.v < l.n) × NoneBefore l.score l.top l.v
+invariant-loop-v l = (l.v % 8 ≡ 0) × (l.v < 128) × NoneBefore l.score l.top l.v
 
 abbrev pub decreases-loop-v : goal.decreases-loop-v
-decreases-loop-v l = l.n - l.v
+decreases-loop-v l = 128 - l.v

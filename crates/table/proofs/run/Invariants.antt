@@ -1,6 +1,6 @@
 -- The loop's invariant is `Turn`, for every list and every set of live nodes that the call was ready for: the nodes placed are a prefix of
--- the order. The measure is what is left of the `count` nodes.
-use Rattle.std.proofs.Common.{◌-◌, ◌≡◌, Bool, ℕ, ◌≤◌, length}
+-- the order.
+use Rattle.std.proofs.Common.{Bool, ℕ}
 use Rattle.meaning.specs.Links.{LinkList}
 use Rattle.table.specs.Table.{Ready}
 use Rattle.table.proofs.Running.{Turn}
@@ -8,11 +8,5 @@ use Rattle.table.proofs.run.Given as goal
 
 abbrev pub invariant-loop-p : goal.invariant-loop-p
 invariant-loop-p l =
-    (l.p ≤ l.count)
-    × (length l.order ≡ length l.fn.order)
-    × (length l.back ≡ length l.fn.back)
-    × ((L : LinkList) (live : ℕ → Bool) (ready : Ready L live l.n l.count l.start l.m l.fn.score)
-    → Turn L live l.n l.count l.start l.fn.order l.fn.back l.score l.order l.back l.x l.p)
-
-abbrev pub decreases-loop-p : goal.decreases-loop-p
-decreases-loop-p l = l.count - l.p
+    (L : LinkList) (live : ℕ → Bool) (ready : Ready L live l.n l.count l.start l.m l.fn.score)
+    → Turn L live l.n l.count l.start l.fn.order l.fn.back l.score l.order l.back l.x l.p

@@ -8,7 +8,7 @@ use Rattle.text.proofs.number.Goals as goal
 pub returns : goal.returns
 returns c =
     let d = c.digits_of-from in
-    let new = spaced_one c.args.x d.new.space d.result (omega arith) d.ensures.1.0 d.ensures.1.1 d.ensures.0 in (
+    let new = spaced_one c.args.x d.new.space d.result (omega arith) d.ensures.within.0 d.ensures.within.1 d.ensures.digits in (
       c.word.ensures.0 ∙ ap (λ (l : List ℕ). put c.args.at l c.args.out.now) new,
       c.word.ensures.1 ∙ ap (λ (l : List ℕ). past c.args.at l c.args.out.now) new,
     )

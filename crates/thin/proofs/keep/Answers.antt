@@ -1,15 +1,20 @@
 -- `keep` meets its contract: a kept weight more stands in the list, and a store changes no other place.
-use Rattle.std.proofs.Common.{refl, arith}
+use Rattle.std.proofs.Common.{refl, arith, false}
 use Rattle.meaning.specs.Sums.{listed}
 use Rattle.laws.specs.Filling.{filled_more}
+use Rattle.lists.specs.Given.{given_by, list_by}
+use Rattle.lists.proofs.Passed.{passed}
 use Rattle.thin.specs.Passes.{kept_at}
 use Rattle.thin.proofs.keep.Goals as goal
 
-pub loop-i-init : goal.loop-i-init
+pub loop-r-init : goal.loop-r-init
 unfolding listed
-loop-i-init c = refl
+loop-r-init c = refl
 
-pub loop-i-preserved : goal.loop-i-preserved
-loop-i-preserved c =
-    filled_more (kept_at c.args.k c.args.first.now c.args.w.now) c.loop-i.i c.kept_of.result c.args.kept.now c.loop-i.kept c.loop-i.invariant
+pub bounds-first-r : goal.bounds-first-r
+bounds-first-r c = let p = passed (given_by c.args.list.now.links) false c.args.list.now.passed in omega (arith, p.even.as_w, p.few_rows)
+
+pub loop-r-preserved : goal.loop-r-preserved
+loop-r-preserved c =
+    filled_more (kept_at c.args.k c.args.first.now (list_by c.args.list.now.links)) c.loop-r.r c.kept_of.result _ _ c.loop-r.invariant
     (omega arith) c.kept_of.ensures

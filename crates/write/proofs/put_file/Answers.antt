@@ -1,9 +1,19 @@
--- `put_file` meets its contract: the stores of its parts, one after the other, lay the file at the front (`file_laid`).
-use Rattle.meaning.specs.Links.{given, list_of}
-use Rattle.write.proofs.Stores.{file_laid}
+-- Each record is stored after those before it (`begun_more`), and then the trailer (`begun_all`).
+use Rattle.std.proofs.Common.{arith}
+use Rattle.lists.specs.Given.{list_by}
+use Rattle.write.proofs.Stores.{begun_none, begun_more, begun_all}
 use Rattle.write.proofs.put_file.Goals as goal
 
-pub returns : goal.returns
-returns c =
-    rw (c.put_trailer.ensures, c.put_rows.ensures c.args.n, c.put16.ensures, c.put2.ensures)
-    (file_laid (list_of (given c.args.n c.args.a.now c.args.b.now c.args.w.now)) c.args.out.now c.requires.1.1.1)
+pub loop-r-init : goal.loop-r-init
+loop-r-init c =
+    rw (c.copy_from_slice.ensures.after, c.nodes_record.ensures) (begun_none (list_by c.args.list.now.links) c.args.out.now)
+
+pub loop-r-preserved : goal.loop-r-preserved
+loop-r-preserved c =
+    rw (c.copy_from_slice-in-loop-r.ensures.after, c.row_record.ensures, c.loop-r.invariant)
+    (begun_more (list_by c.args.list.now.links) c.loop-r.r _ c.args.out.now (omega arith))
+
+pub returns-clause-stored : goal.returns-clause-stored
+returns-clause-stored c =
+    rw (c.copy_from_slice-2.ensures.after, c.trailer.ensures, c.loop-r.invariant)
+    (begun_all (list_by c.args.list.now.links) c.loop-r.r _ c.args.out.now (omega arith) (omega arith))
