@@ -1,5 +1,5 @@
 -- The paper's answer for each case of an answer: what the promises of every call go through.
-use Rattle.std.specs.Prelude.{ℕ, List, [], ◌∷◌, Result, Ok, Err, ⊤}
+use Rattle.std.specs.Prelude.{ℕ, List, [], ◌∷◌, ◌++◌, Result, Ok, Err, ⊤, codes, decimal}
 use Rattle.meaning.specs.Numbers.{Check, fine, bad, Answer, done, refused, file_size, wrong_mark, start_past, record_length, record_passes, record_kind, nodes_record, row_count, node_count, list_size, end_outside, ends_equal, no_weight, short_room, zero_k, one_node, none_below, over_sum}
 use Rattle.answers.specs.declared.Refusal.{Refusal}
 use Rattle.answers.specs.declared.Found.{Found}
@@ -47,6 +47,10 @@ place_of Refusal.ZeroK = 0
 place_of Refusal.OneNode = 0
 place_of Refusal.NoneBelow = 0
 place_of Refusal.OverSum = 0
+
+-- how it prints: the two in decimal
+abbrev pub refusal_text : Refusal → List ℕ
+refusal_text e = decimal (number_of e) ++ codes " at " ++ decimal (place_of e)
 
 -- a check's finding
 abbrev pub told_check : {A : Type 0} → Result A Refusal → Check

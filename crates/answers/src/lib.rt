@@ -2,8 +2,8 @@
 // document 01's table. `specs/Paper.antt` gives the paper's number, place and fields of every answer; all promises go through it.
 #![tactic(auto)]
 
-ghost use Rattle.std.specs.Prelude.{◌≡◌};
-ghost use Rattle.answers.specs.Paper.{number_of, place_of};
+ghost use Rattle.std.specs.Prelude.{◌≡◌, Some};
+ghost use Rattle.answers.specs.Paper.{number_of, place_of, refusal_text};
 
 use std::fmt;
 
@@ -57,7 +57,7 @@ impl Refusal {
         }
     }
 
-    // Its place: 0 where the table names none.
+    // Its place: 0 where the table names none, as `place_of` has it.
     pub fn place(self) -> usize
         ensures { result ≡ place_of self }
     {
@@ -74,6 +74,8 @@ impl Refusal {
 
 // The number and the place, as the report says them after `refused`.
 impl fmt::Display for Refusal {
+    ghost output = { λ e. Some (refusal_text e) };
+
     fn fmt<W: fmt::Write>(&self, f: &mut fmt::Formatter<W>) -> fmt::Result {
         write!(f, "{} at {}", self.number(), self.place())
     }

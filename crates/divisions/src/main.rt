@@ -28,7 +28,7 @@ impl Random {
     }
 }
 
-// A list of up to 12 rows on 2 to 8 nodes.
+// A list of up to 12 rows on 2 to 8 nodes: three arrays and a count, as the calls allocate nothing either.
 #[derive(Drop)]
 struct Site {
     n: u32,
@@ -70,6 +70,7 @@ impl Site {
     }
 
     fn links(&self) -> Links<'_> {
+        // the first rows, taken here for the reason beside `lists::Columns`
         Links {
             n: self.n,
             a: &self.a[..self.rows],

@@ -24,8 +24,7 @@ use Rattle.laws.specs.Lists.{distinct_eq, distinct_later}
 use Rattle.laws.specs.Rows.{back-nil, back-snoc}
 use Rattle.laws.specs.Order.{size_all, length-prefix, prefix_placed}
 use Rattle.thinning.specs.Place.{Lists, order_lists, place-lt, at_place}
-use Rattle.lists.proofs.Passed.{passed}
-use Rattle.table.specs.Table.{cell, cell_at, Holds, mark, Rows, Ready, Ran}
+use Rattle.table.specs.Table.{cell, cell_at, Holds, mark, Ready, Ran}
 use Rattle.forest.specs.Scan.{above, Turnable, Spread, Tabled, Scannable}
 use Rattle.forest.proofs.Reach.{back_most, back_self}
 
@@ -132,19 +131,6 @@ module _ {L : LinkList} {m : List ℕ} {n : ℕ} (t : Tabled L m) (nodes : n ≡
 -- ---- of a list that passed its checks
 
 module _ (g : Given) (fine' : list_check g false ≡ fine) where
-  -- its rows may be put into the table
-  pub passed_rows : Rows g.la g.lb g.lw
-  passed_rows =
-      let p = passed g false fine' in
-      record {
-        same_b = sym p.even.as_b;
-        same_w = sym p.even.as_w;
-        few = p.few_rows;
-        a_inside = λ r h. omega (arith, (p.rows r h).a_in, p.few_nodes);
-        b_inside = λ r h. omega (arith, (p.rows r h).b_in, p.few_nodes);
-        apart = λ r h. (p.rows r h).ends_apart;
-      }
-
-  -- and what they make there is an accepted list's table
+  -- what its rows make in the table is an accepted list's table
   pub passed_tabled : {m : List ℕ} → Words g → Holds (list_of g) m → Tabled (list_of g) m
   passed_tabled words t = record { accepted = fine_accepted g false words fine'; table = t }

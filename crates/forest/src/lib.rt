@@ -3,7 +3,7 @@
 // The table of the list is turned once along the order, so that the cell of x and y holds the cables from y to the nodes before x:
 // what has reached y when the scan comes to x. One pass over the rows in row order then numbers each row from the cell of its two
 // ends and advances the cell by the row's weight. `forest` promises, for every input, its answer and every place of the lent list
-// (`meaning`'s `firsts_of`).
+// (`meaning`'s `firsts_of`); `firsts` promises the places for a list that has passed its checks.
 #![tactic(auto)]
 
 ghost use Rattle.std.specs.Prelude.{◌≡◌, ℕ, ◌+◌, ◌^◌, ◌<◌, ◌≤◌, length, get_or};
@@ -15,10 +15,11 @@ ghost use Rattle.table.specs.Table.{cell_at};
 ghost use Rattle.forest.specs.Scan.{Exchanged, Turnable, Spread, Numbered, Tabled, Scannable, cell_of};
 
 use answers::Refusal;
-use lists::{Checked, Links, NODES, Row};
+use lists::{Checked, Links, NODES, ROWS, Row};
 use table::CELLS;
 
-// A row of the table and the sums change places, and the row is added to the sums.
+// A row of the table and the sums change places, and the row is added to the sums. The row is a slice of the table, so a clause and not its
+// type says how long it is.
 fn exchange(row: &mut [u32], sums: &mut [u32; NODES])
     requires full { length row.old ≡ 128 }
     requires fits { (y : ℕ) → y < 128 → get_or sums.old y 0 + get_or row.old y 0 < 2 ^ 32 }
@@ -106,6 +107,7 @@ impl Scan {
     }
 
     // The rows in row order, one number each.
+    #[tactic(auto, using(lists::proofs::Passed::accepted))]
     fn number_rows(&mut self, list: &Checked<'_>, first: &mut [u32])
         requires room { length list.now.links.a.now ≤ length first.old }
         requires turned { Scannable (list_by list.now.links) (order0 (given_by list.now.links)) 0 self.old.place self.old.m }
@@ -113,6 +115,7 @@ impl Scan {
     {
         let Links { a, b, w, .. } = list.links;
         for r in 0..a.len() {
+            // put together here, for the reason beside `lists::Row`
             first[r] = self.number_row(Row {
                 a: a[r],
                 b: b[r],
@@ -131,9 +134,20 @@ fn number(list: &Checked<'_>, first: &mut [u32])
         m: [0; CELLS],
         place: [0; NODES],
     };
+    // not by `table::order_of`, which leaves its table behind: here it is turned next
     table::fill(&list.links, &mut scan.m);
     scan.turn(list);
     scan.number_rows(list, first);
+}
+
+// ---- the calls
+
+// The first forest number of each row, in row order, of a list that has passed its checks: such a list has at most `ROWS` rows.
+#[tactic(auto, using(lists::proofs::Passed::accepted))]
+pub fn firsts(list: &Checked<'_>, first: &mut [u32; ROWS])
+    ensures { first.new ≡ laid (firsts0 (given_by list.now.links)) first.old }
+{
+    number(list, first);
 }
 
 // The first forest number of each row, in row order; one place per row is needed.

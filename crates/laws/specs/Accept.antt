@@ -1,6 +1,6 @@
 -- The checks of a list against the limits of an accepted one.
 --
--- In order: what a check that found nothing says of its parts (`when_fine`, `then_left`, `then_right`, and back); `Words`, that all numbers
+-- In order: checks one after the other (`then_assoc`); what a check that found nothing says of its parts (`when_fine`, `then_left`, `then_right`, and back); `Words`, that all numbers
 -- given are 16-bit numbers, as they always are; what the counts say (`nodes_limit`, `size_even`, `size_limit`); `fine_accepted`: a list in which
 -- the checks find nothing is accepted; `links_most`: its cables are at most 134,215,680, so that number 18 is never found (`never_over`);
 -- `accepted_fine`: in an accepted list given in lists of equal length the checks find nothing.
@@ -15,6 +15,11 @@ use Rattle.laws.specs.Bools.{true-false, cases_eq, or-false, or-false_left, or-f
 use Rattle.laws.specs.Sums.{sum_most}
 
 -- ---- checks
+
+-- checks one after the other, in whatever groups
+pub then_assoc : (c d e : Check) → (c ⟫ d) ⟫ e ≡ c ⟫ (d ⟫ e)
+then_assoc fine d e = refl
+then_assoc (bad num at) d e = refl
 
 -- a finding is not nothing
 pub bad_fine {ℓ} : {A : Type ℓ} {num at : ℕ} → bad num at ≡ fine → A

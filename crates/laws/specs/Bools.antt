@@ -1,13 +1,14 @@
 -- Laws of tests as Bools, and of `on`, which counts a number where a test holds.
 --
 -- In order: a Bool is true or false (`bool_cases`), two numbers are equal or not (`cases_eq`); what a test's value says of
--- `◌&&◌`, `◌||◌`, `not`, `eqb`; `on` at a known test, and with sums, bounds, `◌&&◌` and `not`; `cond`.
+-- `◌&&◌`, `◌||◌`, `not`, `eqb`; a test as a number (`from_on`), `on` at a known test, and with sums, bounds, `◌&&◌` and `not`; `cond`.
 --
 -- Not here: the facts behind `eqb`, `ltb`, `leb` (`borrow.Author.Tests`: `eqb-true`, `ne_eqb`, ..).
 -- Each is a finite case analysis on its Bools. Assumes nothing.
 use Rattle.std.specs.Prelude.{ℕ, ◌+◌, ◌≤◌, ◌<◌, ◌≡◌, refl, ◌⊎◌, Bool, true, false, not, ◌&&◌, ◌||◌, cond, eqb, ltb}
 use Rattle.std.proofs.Common.{sym, ap, ◌∙◌, subst, inl, inr, ⊎_elim, arith, eqb-true, eq-eqb, ltb-true, ltb-false}
 use Rattle.std.proofs.lemmas.Bool.{eqb-false}
+use Rattle.std.specs.Int.{from_bool}
 use Rattle.meaning.specs.Sums.{on, differ}
 
 -- ---- cases
@@ -123,6 +124,11 @@ only_at t z e v =
     same_test (t v && eqb z v) (eqb z v) (and_right (t v) (eqb z v)) (λ q. and-true (t v) (eqb z v) (ap t (sym (eqb-true z v q)) ∙ e) q)
 
 -- ---- on
+
+-- a test as a number, as `usize::from` makes it
+pub from_on : (p : Bool) → from_bool p ≡ on p 1
+from_on true = refl
+from_on false = refl
 
 pub on-true : (p : Bool) (x : ℕ) → p ≡ true → on p x ≡ x
 on-true true x e = refl

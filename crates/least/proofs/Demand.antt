@@ -18,7 +18,7 @@ use Rattle.laws.specs.Accept.{Words, fine_accepted}
 use Rattle.answers.specs.Paper.{parted_paper}
 use Rattle.answers.specs.Unique.{parted_unique}
 use Rattle.answers.specs.declared.Refusal.{Refusal}
-use Rattle.answers.specs.declared.Split.{Split as Parted}
+use Rattle.answers.specs.declared.Split.{Split}
 use Rattle.method.specs.Division.{Division}
 use Rattle.method.specs.Least.{least_split}
 use Rattle.method.specs.Question.{SomeBelow, NoneBelow, fewer_given, fewer_none, fewer_split}
@@ -39,19 +39,19 @@ none_bad false false true f e = refl
 none_bad false false false f e = absurd (omega arith)
 
 -- the split that parts the nodes of a side from the rest
-abbrev pub split_of : Given → (ℕ → Bool) → Parted
+abbrev pub split_of : Given → (ℕ → Bool) → Split
 split_of g side = record { value = cut (list_of g) side; side = record { low = word g.n side 0; high = word g.n side 1; size = size_of g.n side } }
 
 module _ (g : Given) (words : Words g) (ok : list_check g false ≡ fine) where
   -- the answer of `least` is a division, node 0 outside, and no division has fewer across
-  pub record LeastTold (r : Result Parted Refusal) : Type 0 where
+  pub record LeastTold (r : Result Split Refusal) : Type 0 where
     pub side : ℕ → Bool
     pub told : r ≡ Ok (split_of g side)
     pub division : Division g.n side
     pub no_start : side 0 ≡ false
     pub least : (S : ℕ → Bool) → Division g.n S → cut (list_of g) side ≤ cut (list_of g) S
 
-  pub least_told : 2 ≤ g.n → (r : Result Parted Refusal) → parted_paper r ≡ least_answer g → LeastTold r
+  pub least_told : 2 ≤ g.n → (r : Result Split Refusal) → parted_paper r ≡ least_answer g → LeastTold r
   least_told two r says =
       let p = least0 g in
       let s = least_split (list_of g) (fine_accepted g false words ok) two 0 (omega arith) in
@@ -65,7 +65,7 @@ module _ (g : Given) (words : Words g) (ok : list_check g false ≡ fine) where
         least = λ S d. omega (arith, s.least S d, s.value_of);
       }
 
-  module _ (k : ℕ) (some : 1 ≤ k) (r : Result Parted Refusal) (says : parted_paper r ≡ fewer_answer g k) where
+  module _ (k : ℕ) (some : 1 ≤ k) (r : Result Split Refusal) (says : parted_paper r ≡ fewer_answer g k) where
     abbrev rest : Check
     rest = when (eqb k 0) zero_k 0 ⟫ when (eqb g.n 1) one_node 0 ⟫ when (leb k (least0 g).value) none_below 0
 
@@ -96,7 +96,7 @@ module _ (g : Given) (words : Words g) (ok : list_check g false ≡ fine) where
     )
 
     -- and yes comes with the split that `least` gives
-    pub fewer_same : 2 ≤ g.n → number (parted_paper r) ≡ 0 → (t : Result Parted Refusal) → parted_paper t ≡ least_answer g → r ≡ t
+    pub fewer_same : 2 ≤ g.n → number (parted_paper r) ≡ 0 → (t : Result Split Refusal) → parted_paper t ≡ least_answer g → r ≡ t
     fewer_same two e t least =
         let passed : fewer_check g k ≡ fine = (fewer_given g words ok k some).1 (fewer_yes.0 e) in
         parted_unique r t (says ∙ (fewer_split g words ok k some passed).2 ∙ sym (least ∙ rw (ok, ne_eqb g.n 1 (λ e. omega arith))))

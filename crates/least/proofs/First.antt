@@ -8,35 +8,17 @@ use lib.ListN.{length, get_or, take}
 use lib.Seq.{get_or-take, length-take-le}
 use Rattle.answers.specs.declared.Side.{Side}
 use Rattle.meaning.specs.Links.{LinkList, Accepted}
-use Rattle.meaning.specs.Order.{all, prefix, order_of, back_at, backs_of}
-use Rattle.laws.specs.Lists.{get_or-laid_new, get_or-listed, length-laid, length-listed}
-use Rattle.laws.specs.Order.{length-prefix}
+use Rattle.meaning.specs.Order.{all, prefix, order_of, back_at}
 use Rattle.meaning.specs.Split.{merged, noted, group_order, rounds, least_of}
 use Rattle.laws.specs.Bools.{eqb_same}
 use Rattle.method.specs.Least.{Groups, accepted_ends, all_groups, last_of, before_of, noted_value, round_groups, rounds_real}
 use Rattle.method.specs.Question.{NoneBelow}
 use Rattle.sides.specs.Bits.{labelled, Sided}
-use Rattle.table.specs.Table.{Ran, Numbered}
+use Rattle.table.specs.Table.{Numbered}
 use Rattle.least.specs.Rounds.{Notes}
 use Rattle.table.specs.Floor.{Along}
 use Rattle.least.proofs.Noting.{better_no, noted_side}
 use Rattle.least.proofs.Going.{real_division}
-
--- what the run of a whole list lays in two lists of 128 places
-pub ran_along : {L : LinkList} {order order' back back' : List ℕ} → L.nodes ≤ 128 → length order ≡ 128 → length back ≡ 128
-    → Ran L all L.nodes 0 order order' back back' → Along L order' back'
-ran_along {L} {order} {order'} {back} {back'} few so sb r =
-    let o = order_of L 0 in
-    let len = length-prefix L all 0 L.nodes in
-    let blen = length-listed (length o) (back_at L o) in
-    record {
-      order_size = ap length r.order_is ∙ length-laid o order (omega (arith, len)) ∙ so;
-      back_size = ap length r.back_is ∙ length-laid (backs_of L o) back (omega (arith, len, blen)) ∙ sb;
-      order_is = λ p h. ap (λ l. get_or l p 0) r.order_is ∙ get_or-laid_new o order p (omega (arith, len));
-      back_is = λ p h.
-          ap (λ l. get_or l p 0) r.back_is ∙ get_or-laid_new (backs_of L o) back p (omega (arith, len, blen))
-          ∙ get_or-listed (length o) (back_at L o) p (omega (arith, len));
-    }
 
 -- with every node its own group all are live
 order_first : (L : LinkList) (m : ℕ) → prefix L all 0 m ≡ group_order L 0 (λ v. v) m

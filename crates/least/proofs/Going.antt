@@ -8,27 +8,27 @@ use Prim.Native.Nat.{ℕ, zero, suc, ◌-◌, ◌≤◌, ◌<◌}
 use native.Mathlib.Omega.{arith}
 use Rattle.meaning.specs.Links.{LinkList, links}
 use Rattle.meaning.specs.Order.{all}
-use Rattle.meaning.specs.Split.{Split, group, merged, noted, better, rounds, least_of}
+use Rattle.meaning.specs.Split.{Split as PaperSplit, group, merged, noted, better, rounds, least_of}
 use Rattle.laws.specs.Rows.{cut-links}
 use Rattle.laws.specs.Accept.{links_most}
 use Rattle.laws.specs.Rounds.{better_now, better_assoc}
 use Rattle.method.specs.Least.{Groups, Real, accepted_ends, rounds_real, last_of, before_of}
 use Rattle.method.specs.Division.{Division}
 use Rattle.method.specs.Question.{NoneBelow}
-use Rattle.answers.specs.declared.Split.{Split as Parted}
+use Rattle.answers.specs.declared.Split.{Split}
 use Rattle.least.specs.Rounds.{Grouped, NotesYet, Notes, After, above}
 use Rattle.least.proofs.Noting.{better_yes, better_no}
 use Rattle.least.proofs.Grouping.{in_groups}
 
 -- the answer, when p is noted and `count` groups are left
-abbrev rest : LinkList → ℕ → Split → (ℕ → ℕ) → ℕ → Split
+abbrev rest : LinkList → ℕ → PaperSplit → (ℕ → ℕ) → ℕ → PaperSplit
 rest L start p g zero = p
 rest L start p g (suc zero) = p
 rest L start p g (suc (suc j)) = better p (rounds L start j g)
 
-pub record Going (L : LinkList) (start n count : ℕ) (m label : List ℕ) (r : Parted) : Type 0 where
+pub record Going (L : LinkList) (start n count : ℕ) (m label : List ℕ) (r : Split) : Type 0 where
   pub g : ℕ → ℕ
-  pub p : Split
+  pub p : PaperSplit
   pub grouped : Grouped L g n count m label
   pub notes : Notes n p r
   pub same : least_of L start ≡ rest L start p g count
@@ -44,7 +44,7 @@ rounds_low L start (suc j) g =
     )
 
 -- a round's better part goes over to what is noted
-next : (L : LinkList) (start j : ℕ) (p : Split) (g : ℕ → ℕ)
+next : (L : LinkList) (start j : ℕ) (p : PaperSplit) (g : ℕ → ℕ)
     → better p (rounds L start j g)
     ≡ rest L start (better p (noted L g (last_of L start g j))) (merged g (before_of L start g j) (last_of L start g j)) (suc j)
 unfolding rounds
@@ -53,7 +53,7 @@ next L start (suc j) p g =
     sym (better_assoc p (noted L g (last_of L start g (suc j))) (rounds L start j (merged g (before_of L start g (suc j)) (last_of L start g (suc j)))))
 
 -- a round, with p noted before it
-going_on : {L : LinkList} {start n j : ℕ} {m label : List ℕ} {r : Parted} (g : ℕ → ℕ) (p : Split)
+going_on : {L : LinkList} {start n j : ℕ} {m label : List ℕ} {r : Split} (g : ℕ → ℕ) (p : PaperSplit)
     → least_of L start ≡ better p (rounds L start j g) → After L start g j n p m label r → Going L start n (suc j) m label r
 going_on {L} {start} {n} {j} {m} {label} {r} g p same t =
     record {
@@ -65,13 +65,13 @@ going_on {L} {start} {n} {j} {m} {label} {r} g p same t =
     }
 
 -- what a round promises of `count` groups, where r is noted
-abbrev pub Round : ℕ → ℕ → ℕ → Option Parted → List ℕ → List ℕ → List ℕ → List ℕ → Parted → Type 0
+abbrev pub Round : ℕ → ℕ → ℕ → Option Split → List ℕ → List ℕ → List ℕ → List ℕ → Split → Type 0
 Round start n count r m label m' label' r' =
-    (L : LinkList) (g : ℕ → ℕ) (j : ℕ) (p : Split) → count ≡ suc (suc j) → Grouped L g n count m label → NotesYet n p r
+    (L : LinkList) (g : ℕ → ℕ) (j : ℕ) (p : PaperSplit) → count ≡ suc (suc j) → Grouped L g n count m label → NotesYet n p r
     → After L start g j n p m' label' r'
 
 -- the first round
-pub going_first : {L : LinkList} {start n count left : ℕ} {m label m' label' : List ℕ} {r : Parted} → Grouped L (λ v. v) n count m label → 2 ≤ n
+pub going_first : {L : LinkList} {start n count left : ℕ} {m label m' label' : List ℕ} {r : Split} → Grouped L (λ v. v) n count m label → 2 ≤ n
     → count ≡ n → suc left ≡ count → Round start n count None m label m' label' r → Going L start n left m' label' r
 going_first {L} {start} {n} {count} {left} {m} {label} {m'} {label'} {r} s two all less round =
     let j = n - 2 in
@@ -85,7 +85,7 @@ going_first {L} {start} {n} {count} {left} {m} {label} {m'} {label'} {r} s two a
     (going_on (λ v. v) above first (round L (λ v. v) j above many s refl))
 
 -- and each later one
-pub going_round : {L : LinkList} {start n count left : ℕ} {m label m' label' : List ℕ} {r r' : Parted} → Going L start n count m label r
+pub going_round : {L : LinkList} {start n count left : ℕ} {m label m' label' : List ℕ} {r r' : Split} → Going L start n count m label r
     → 2 ≤ count → suc left ≡ count → Round start n count (Some r) m label m' label' r' → Going L start n left m' label' r'
 going_round {L} {start} {n} {count} {left} {m} {label} {m'} {label'} {r} {r'} s two less round =
     let j = count - 2 in
@@ -95,14 +95,14 @@ going_round {L} {start} {n} {count} {left} {m} {label} {m'} {label'} {r} {r'} s 
     subst (λ k. Going L start n k m' label' r') one (going_on s.g s.p same (round L s.g j s.p many s.grouped s.notes))
 
 -- a real split is a division
-pub real_division : {L : LinkList} {start : ℕ} {p : Split} → Real L all start p → Division L.nodes p.side
+pub real_division : {L : LinkList} {start : ℕ} {p : PaperSplit} → Real L all start p → Division L.nodes p.side
 real_division real =
     let i = real.parts.inside in
     let o = real.parts.outside in
     record { inside = (i.0, i.1, i.3); outside = (o.0, o.1, o.3) }
 
 -- the rounds may end when no division is below what is noted: whatever they would answer is a division
-pub going_low : {L : LinkList} {start n count : ℕ} {m label : List ℕ} {r : Parted} → Going L start n count m label r → start < n
+pub going_low : {L : LinkList} {start n count : ℕ} {m label : List ℕ} {r : Split} → Going L start n count m label r → start < n
     → (low : ℕ) → NoneBelow L low → r.value ≤ low → Notes n (least_of L start) r
 going_low {L} {start} {n} {count} {m} {label} {r} s inside low none le = rw (s.same ∙ kept count (in_groups s.grouped)) s.notes
   where
@@ -115,7 +115,7 @@ going_low {L} {start} {n} {count} {m} {label} {r} s inside low none le = rw (s.s
         better_no s.p (rounds L start j s.g) (omega (arith, s.notes.value_is, real.value_of, none (rounds L start j s.g).side (real_division real)))
 
 -- and they end when one group is left
-pub going_last : {L : LinkList} {start n count : ℕ} {m label : List ℕ} {r : Parted} → Going L start n count m label r → count ≤ 1
+pub going_last : {L : LinkList} {start n count : ℕ} {m label : List ℕ} {r : Split} → Going L start n count m label r → count ≤ 1
     → Notes n (least_of L start) r
 going_last {L} {start} {n} {count} {m} {label} {r} s one = rw (s.same ∙ kept count one) s.notes
   where

@@ -15,7 +15,7 @@ use borrow.Author.Tests.{eq-eqb, ne_eqb}
 use Rattle.meaning.specs.Sums.{on, laid}
 use Rattle.meaning.specs.Links.{LinkList, Accepted}
 use Rattle.meaning.specs.Order.{all, back, prefix, back_at, backs_of}
-use Rattle.meaning.specs.Split.{Split, renamed, live, group, merged, noted, better, group_order}
+use Rattle.meaning.specs.Split.{Split as PaperSplit, renamed, live, group, merged, noted, better, group_order}
 use Rattle.laws.specs.Bools.{cases_eq, on_most}
 use Rattle.laws.specs.Choose.{size_most}
 use Rattle.laws.specs.Lists.{get_or-laid_new, get_or-listed, length-listed}
@@ -26,7 +26,7 @@ use Rattle.laws.specs.Rounds.{moved}
 use Rattle.method.specs.Least.{Groups, Ends, accepted_ends, all_groups, last_of, before_of, round_groups, noted_value, t_below, p_below, p-t}
 use Rattle.sides.specs.Bits.{labelled}
 use Rattle.table.specs.Table.{cell, Holds, Ran, Ready, mark, Numbered}
-use Rattle.answers.specs.declared.Split.{Split as Parted}
+use Rattle.answers.specs.declared.Split.{Split}
 use Rattle.least.specs.declared.Last.{Last}
 use Rattle.least.specs.Rounds.{Light, Folded, Relabelled, Opened, Grouped, Ended, NotesYet, Notes, After}
 use Rattle.least.proofs.Merging.{folded_holds}
@@ -179,8 +179,8 @@ module _ {L : LinkList} {g : ℕ → ℕ} {n count : ℕ} {m label : List ℕ} (
       side_is : (v : ℕ) → v < n → labelled (take n label) l.last v ≡ group g t v
       side_is v h = rw (get_or-take n label v 0 h, s.labels v h, end.last_is)
 
-      pub after_round : {p : Split} (r : Option Parted) {r' : Parted} {m' label' : List ℕ}
-          → ((p q : Split) → NotesYet (length (take n label)) p r → l.value ≡ q.value → l.value < mark
+      pub after_round : {p : PaperSplit} (r : Option Split) {r' : Split} {m' label' : List ℕ}
+          → ((p q : PaperSplit) → NotesYet (length (take n label)) p r → l.value ≡ q.value → l.value < mark
           → ((v : ℕ) → v < length (take n label) → labelled (take n label) l.last v ≡ q.side v) → Notes (length (take n label)) (better p q) r')
           → Folded (min l.before l.last) (max l.before l.last) m m'
           → Relabelled 128 (min l.before l.last) (max l.before l.last) label label'

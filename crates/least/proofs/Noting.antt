@@ -8,20 +8,20 @@ use native.Mathlib.Omega.{arith}
 use lib.Dec.{eqb}
 use borrow.Author.Tests.{lt-ltb, le-ltb}
 use Rattle.meaning.specs.Sums.{on}
-use Rattle.meaning.specs.Split.{Split, size_of, better, word}
+use Rattle.meaning.specs.Split.{Split as PaperSplit, size_of, better, word}
 use Rattle.laws.specs.Sums.{sum_ext}
 use Rattle.sides.specs.Bits.{Sided}
 use Rattle.answers.specs.declared.Side.{Side}
-use Rattle.answers.specs.declared.Split.{Split as Parted}
+use Rattle.answers.specs.declared.Split.{Split}
 use Rattle.table.specs.Table.{mark}
 use Rattle.least.specs.Rounds.{NotesYet, Notes}
 
 -- ---- the better of two
 
-pub better_yes : (now next : Split) → next.value < now.value → better now next ≡ next
+pub better_yes : (now next : PaperSplit) → next.value < now.value → better now next ≡ next
 better_yes now next h = rw (lt-ltb next.value now.value h)
 
-pub better_no : (now next : Split) → now.value ≤ next.value → better now next ≡ now
+pub better_no : (now next : PaperSplit) → now.value ≤ next.value → better now next ≡ now
 better_no now next h = rw (le-ltb next.value now.value h)
 
 -- ---- noting
@@ -36,7 +36,7 @@ module _ (n : ℕ) (S T : ℕ → Bool) (same : (v : ℕ) → v < n → S v ≡ 
   size_ext = sum_ext n (λ v. on (S v) 1) (λ v. on (T v) 1) (λ v h. rw (same v h))
 
 -- a division by its value and the words of its side
-pub noted_side : {n value : ℕ} {w : Side} (q : Split) (S : ℕ → Bool) → value ≡ q.value → n ≤ 128 → Sided n S w
+pub noted_side : {n value : ℕ} {w : Side} (q : PaperSplit) (S : ℕ → Bool) → value ≡ q.value → n ≤ 128 → Sided n S w
     → ((v : ℕ) → v < n → S v ≡ q.side v) → Notes n q (record { value = value; side = w })
 noted_side {n} {value} {w} q S is few made same =
     let all : min n 128 ≡ n = omega arith in
@@ -47,17 +47,17 @@ noted_side {n} {value} {w} q S is few made same =
       size_is = made.right_size ∙ rw all (size_ext n S q.side same);
     }
 
-module _ {n : ℕ} (p q : Split) {value : ℕ} (is : value ≡ q.value) where
+module _ {n : ℕ} (p q : PaperSplit) {value : ℕ} (is : value ≡ q.value) where
   pub note_smaller : {w : Side} (S : ℕ → Bool) → n ≤ 128 → Sided n S w → ((v : ℕ) → v < n → S v ≡ q.side v) → value < p.value
       → Notes n (better p q) (record { value = value; side = w })
   note_smaller S few made same less = rw (better_yes p q (omega arith)) (noted_side q S is few made same)
 
-  pub note_kept : {r : Parted} → Notes n p r → r.value ≤ value → Notes n (better p q) r
+  pub note_kept : {r : Split} → Notes n p r → r.value ≤ value → Notes n (better p q) r
   note_kept s more = rw (better_no p q (omega (arith, s.value_is))) s
 
 -- the value that is noted, if any, is that of p
-pub yet_some : (n : ℕ) (p : Split) {r : Option Parted} {x : Parted} → NotesYet n p r → r ≡ Some x → x.value ≡ p.value
+pub yet_some : (n : ℕ) (p : PaperSplit) {r : Option Split} {x : Split} → NotesYet n p r → r ≡ Some x → x.value ≡ p.value
 yet_some n p notes is = (rw is at notes).value_is
 
-pub yet_none : (n : ℕ) (p : Split) {r : Option Parted} → NotesYet n p r → r ≡ None → p.value ≡ mark
-yet_none n p notes is = ap (λ (d : Split). d.value) (rw is at notes)
+pub yet_none : (n : ℕ) (p : PaperSplit) {r : Option Split} → NotesYet n p r → r ≡ None → p.value ≡ mark
+yet_none n p notes is = ap (λ (d : PaperSplit). d.value) (rw is at notes)

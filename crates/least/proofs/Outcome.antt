@@ -3,7 +3,6 @@
 use Prim.Native.Nat.{ℕ, ◌≤◌}
 use mathlib.Core.Path.{◌≡◌, refl, sym, ◌∙◌}
 use mathlib.Core.Bool.{false}
-use native.Mathlib.Omega.{arith}
 use lib.Dec.{eqb}
 use borrow.Author.Tests.{ne_eqb}
 use Rattle.std.specs.Prelude.{Result}
@@ -15,24 +14,10 @@ use Rattle.answers.specs.Unique.{parted_unique}
 use Rattle.answers.specs.declared.Refusal.{Refusal}
 use Rattle.answers.specs.declared.Split.{Split}
 use Rattle.lists.proofs.Passed.{passed}
-use Rattle.table.specs.Table.{Rows}
 use Rattle.least.specs.Rounds.{Notes}
 
-module _ (g : Given) (passes : list_check g false ≡ fine) where
-  pub node_bounds : (1 ≤ g.n) × (g.n ≤ 128)
-  node_bounds = let p = passed g false passes in (p.some_node, p.few_nodes)
-
-  pub good_rows : Rows g.la g.lb g.lw
-  good_rows =
-      let p = passed g false passes in
-      record {
-        same_b = sym p.even.as_b;
-        same_w = sym p.even.as_w;
-        few = p.few_rows;
-        a_inside = λ r h. let row = p.rows r h in omega (arith, row.a_in, p.few_nodes);
-        b_inside = λ r h. let row = p.rows r h in omega (arith, row.b_in, p.few_nodes);
-        apart = λ r h. (p.rows r h).ends_apart;
-      }
+pub node_bounds : (g : Given) → list_check g false ≡ fine → (1 ≤ g.n) × (g.n ≤ 128)
+node_bounds g passes = let p = passed g false passes in (p.some_node, p.few_nodes)
 
 -- a split of two nodes or more is the answer after the checks of the list
 pub gives : (g : Given) {r : Split} → (g.n ≡ 1 → ⊥) → Notes g.n (least0 g) r

@@ -4,12 +4,12 @@ use Rattle.std.specs.Prelude.{ℕ, suc, ◌+◌, ◌≤◌, ◌<◌, ◌≡◌, 
 use Rattle.meaning.specs.Sums.{on}
 use Rattle.meaning.specs.Links.{LinkList, Accepted}
 use Rattle.meaning.specs.Order.{all}
-use Rattle.meaning.specs.Split.{Split, cut, renamed, group, merged, noted, better, word, size_of}
+use Rattle.meaning.specs.Split.{Split as PaperSplit, cut, renamed, group, merged, noted, better, word, size_of}
 use Rattle.laws.specs.Rounds.{moved}
 use Rattle.method.specs.Least.{Groups, last_of, before_of}
 use Rattle.table.specs.Table.{cell_at, Holds, mark}
 use Rattle.least.specs.declared.Last.{Last}
-use Rattle.answers.specs.declared.Split.{Split as Parted}
+use Rattle.answers.specs.declared.Split.{Split}
 
 -- ---- labels
 
@@ -74,21 +74,21 @@ pub record Ended (L : LinkList) (s : ℕ) (g : ℕ → ℕ) (j : ℕ) (r : Last)
   pub value_is : r.value ≡ cut L (group g (last_of L s g j))
 
 -- r is the division p of n nodes, by its value, its side's words and its size
-pub record Notes (n : ℕ) (p : Split) (r : Parted) : Type 0 where
+pub record Notes (n : ℕ) (p : PaperSplit) (r : Split) : Type 0 where
   pub value_is : r.value ≡ p.value
   pub low_is : r.side.low ≡ word n p.side 0
   pub high_is : r.side.high ≡ word n p.side 1
   pub size_is : r.side.size ≡ size_of n p.side
 
 -- before the first round nothing is noted, which counts as a value above all, of an empty side
-abbrev pub above : Split
+abbrev pub above : PaperSplit
 above = record { value = mark; side = λ v. false }
 
-abbrev pub NotesYet : ℕ → Split → Option Parted → Type 0
+abbrev pub NotesYet : ℕ → PaperSplit → Option Split → Type 0
 NotesYet n p None = p ≡ above
 NotesYet n p (Some r) = Notes n p r
 
 -- what a round with j + 2 groups leaves: one group less, and the better division noted
-pub record After (L : LinkList) (s : ℕ) (g : ℕ → ℕ) (j n : ℕ) (p : Split) (m label : List ℕ) (r : Parted) : Type 0 where
+pub record After (L : LinkList) (s : ℕ) (g : ℕ → ℕ) (j n : ℕ) (p : PaperSplit) (m label : List ℕ) (r : Split) : Type 0 where
   pub grouped : Grouped L (merged g (before_of L s g j) (last_of L s g j)) n (suc j) m label
   pub notes : Notes n (better p (noted L g (last_of L s g j))) r

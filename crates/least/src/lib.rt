@@ -4,13 +4,13 @@
 // A side's words are made only when a smaller value is noted.
 #![tactic(auto)]
 
-ghost use Rattle.std.specs.Prelude.{◌≡◌, ℕ, suc, ◌≤◌, ◌<◌, min, max, length, get_or, eqb};
+ghost use Rattle.std.specs.Prelude.{◌≡◌, ℕ, suc, ◌≤◌, ◌<◌, min, max, length, eqb};
 ghost use Rattle.meaning.specs.Links.{LinkList};
 ghost use Rattle.meaning.specs.Numbers.{when, answered, one_node};
 ghost use Rattle.meaning.specs.Split.{Split as PaperSplit, better, least_of};
 ghost use Rattle.meaning.specs.Calls.{split_fields, least0, least_answer, fewer_answer};
 ghost use Rattle.answers.specs.Paper.{parted_paper};
-ghost use Rattle.lists.specs.Given.{given_by, list_by};
+ghost use Rattle.lists.specs.Given.{given_by};
 ghost use Rattle.method.specs.Question.{NoneBelow};
 ghost use Rattle.sides.specs.Bits.{labelled};
 ghost use Rattle.table.specs.Table.{mark, cell_at};
@@ -22,7 +22,8 @@ use table::CELLS;
 
 // ---- two groups that become one
 
-// The numbers of two groups: `gone` becomes part of `keep`, the smaller.
+// The numbers of two groups: `gone` becomes part of `keep`, the smaller. That no sum of two cells overflows (`Light`) is a clause: it is of the table,
+// and not of the pair.
 #[derive(Clone, Copy)]
 struct Pair {
     keep: u16,
@@ -108,7 +109,8 @@ fn note(noted: Option<Split>, label: &[u16], t: u16, value: u32) -> Split
 
 // ---- the groups
 
-// The groups of the nodes, `count` of them: the table of the cables between them, and the number of each node's group.
+// The groups of the nodes, `count` of them: the table of the cables between them, and the number of each node's group. Arrays of the frame, since
+// the calls allocate nothing. Which list's groups they are is a clause (`Grouping`), since a type knows no list.
 #[derive(Drop)]
 struct Groups {
     nodes: usize,
@@ -157,7 +159,7 @@ impl Groups {
         }
     }
 
-    // The groups p and q become one, which carries the smaller number.
+    // The groups p and q become one, which carries the smaller number. The one place where a `Pair` is made.
     fn merge(&mut self, p: u16, q: u16)
         requires apart { (p < 128) × (q < 128) × (p ≡ q → ⊥) }
         requires some { 1 ≤ self.old.count }
@@ -215,10 +217,9 @@ fn split(list: &Checked<'_>) -> Result<Split, Refusal>
         (split_fields list.now.links.n (least0 (given_by list.now.links))) }
 {
     let n = list.nodes();
-    // by its checks
+    // what its checks say: n nodes fit the arrays below, and there is a last one
     prove!(1 <= n);
     prove!(n <= NODES);
-    // by their type
     if n == 1 {
         return Err(Refusal::OneNode);
     }

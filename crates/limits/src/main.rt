@@ -28,6 +28,7 @@ fn ring(ahead: u8) -> [u16; ROWS] {
 fn print_rows(rt: &impl Print, what: &str, all: &Links<'_>, n: u32, rows: usize) -> io::Result<()>
     requires { (rows ≤ length all.now.a.now) × (rows ≤ length all.now.b.now) × (rows ≤ length all.now.w.now) }
 {
+    // the first rows, taken here for the reason beside `lists::Columns`
     let list = Links {
         n,
         a: &all.a[..rows],

@@ -5,7 +5,9 @@ use Prim.Native.Nat.{ℕ, zero, suc, ◌+◌, ◌<◌, ◌≤◌}
 use mathlib.Core.Path.{◌≡◌, refl, sym, ap, ◌∙◌}
 use mathlib.Core.Bool.{Bool, false}
 use mathlib.Core.List.{[]}
+use mathlib.Core.HLevel.{Σ_prop_path}
 use mathlib.Core.Logic.{⊎_elim}
+use mathlib.Core.Sum.{⊎_set}
 use native.Mathlib.Nat.{eq-or-lt_of_le}
 use native.Mathlib.Numerals.{add-one}
 use native.Mathlib.Omega.{arith}
@@ -16,7 +18,8 @@ use Rattle.meaning.specs.Numbers.{Check, fine, bad, when, ◌⟫◌, node_count,
 use Rattle.meaning.specs.Links.{LinkList, Given, list_of, links, row_check, rows_check, bad_nodes, list_check}
 use Rattle.meaning.specs.Sums.{sum}
 use Rattle.laws.specs.Bools.{or-false_left, or-false_right}
-use Rattle.laws.specs.Accept.{bad_fine, when_fine, then_left, then_right, check_fine}
+use Rattle.laws.specs.Accept.{Words, bad_fine, then_assoc, when_fine, then_left, then_right, check_fine}
+use Rattle.std.proofs.Props.{props}
 use Rattle.std.specs.Prelude.{Result, Ok, Err, ⊤, IfOk}
 use Rattle.answers.specs.Paper.{told_check, told_paper}
 use Rattle.answers.specs.Unique.{check_unique, finding_unique}
@@ -57,10 +60,6 @@ rest_end L r all before =
 
 -- ---- the parts of a list's checks
 
-then_assoc : (c d e : Check) → (c ⟫ d) ⟫ e ≡ c ⟫ (d ⟫ e)
-then_assoc fine d e = refl
-then_assoc (bad num at) d e = refl
-
 -- the counts, then the rest
 pub list_parts : (g : Given) (short : Bool) →
     list_check g short ≡ size_check g.n (length g.la) (uneven g) short ⟫ rest_check (list_of g)
@@ -83,26 +82,30 @@ pub told-answered : (t : Result ⊤ Refusal) → told_paper t ≡ answered (told
 told-answered (Ok x) = refl
 told-answered (Err e) = refl
 
--- any two answers that `check` may give are equal: what it finds, and the links that it hands on
+-- what a check finds is one answer
 pub list_check_unique : (g : Given) (short : Bool) (t u : Result ⊤ Refusal) →
     told_check t ≡ list_check g short → told_check u ≡ list_check g short → t ≡ u
 list_check_unique g short t u p q = check_unique t u (p ∙ sym q)
 
-abbrev links_of : Result Checked Refusal → Result Links Refusal
-links_of (Ok c) = Ok c.links
-links_of (Err e) = Err e
+-- a `Checked` list is its links: besides them it has proofs alone, and any two proofs of a fact are equal
+abbrev Facts : Links → Type 0
+Facts l = (list_check (given_by l) false ≡ fine) × Words (given_by l)
 
-found_links : (t : Result Checked Refusal) → told_check (links_of t) ≡ told_check t
-found_links (Ok c) = refl
-found_links (Err e) = refl
+facts_prop : (l : Links) → IsProp (Facts l)
+facts_prop l = hlevel (⊎_set, props)
 
-links_is : (t : Result Checked Refusal) (l x : Links) → IfOk t (λ c. c.links ≡ l) → links_of t ≡ Ok x → x ≡ l
-links_is (Ok c) l x same is = let this : c.links ≡ x = cc in sym this ∙ same
-links_is (Err e) l x same is = absurd (let z : told_check {A = Links} (Err e) ≡ told_check (Ok x) = ap told_check is in bad_fine z)
+checked_same : (c d : Checked) → c.links ≡ d.links → c ≡ d
+checked_same c d e =
+    let made : (l : Links) × Facts l → Checked = λ p. record { links = p.0; passed = p.1.0; words = p.1.1 } in
+    ap made (Σ_prop_path facts_prop {u = (c.links, (c.passed, c.words))} {v = (d.links, (d.passed, d.words))} e)
 
+-- so any two answers that `check` may give are equal
 pub checked_unique : (l : Links) (short : Bool) (t u : Result Checked Refusal) →
     told_check t ≡ list_check (given_by l) short → IfOk t (λ c. c.links ≡ l) →
-    told_check u ≡ list_check (given_by l) short → IfOk u (λ c. c.links ≡ l) → links_of t ≡ links_of u
-checked_unique l short t u p same q same' =
-    finding_unique (links_of t) (links_of u) (λ x y tx uy. links_is t l x same tx ∙ sym (links_is u l y same' uy))
-    (found_links t ∙ p ∙ sym (found_links u ∙ q))
+    told_check u ≡ list_check (given_by l) short → IfOk u (λ c. c.links ≡ l) → t ≡ u
+checked_unique l short (Ok c) (Ok d) p same q same' = ap Ok (checked_same c d (same ∙ sym same'))
+checked_unique l short (Ok c) (Err e) p same q same' = bad_fine (q ∙ sym p)
+checked_unique l short (Err e) (Ok d) p same q same' = bad_fine (p ∙ sym q)
+checked_unique l short (Err e) (Err d) p same q same' =
+    let found : told_check {A = Checked} (Err e) ≡ told_check {A = Checked} (Err d) = p ∙ sym q in
+    finding_unique (Err e) (Err d) (λ x y is is'. cc) found

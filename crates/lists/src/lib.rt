@@ -1,13 +1,13 @@
 // The list of links that every call is given, and the checks that every call makes of it, in document 01's order: 9, 10, 14, then row by
 // row 11, 12, 13, then 18. `Links` is the list as the caller hands it over; its `check` promises for every input what `list_check` of
-// `meaning` finds, and hands out a `Checked` list, so that what goes on with a list cannot be given one that was not checked.
-// The three parts are there for the reader, which judges rows before they stand in a list: so each of these numbers is made in one place.
-// What an accepted list has, for the calls that go on with one, is in `proofs/Passed.antt`.
+// `meaning` finds, and hands out a `Checked` list. What goes on with a list takes a `Checked` one, and no list that would not pass can be made into one.
+// The three parts of the checks are public for the reader, which judges rows before they stand in a list: so each of these numbers is made
+// in one place. `proofs/Passed.antt` says what a list has that passed, for the calls that go on with one.
 #![tactic(auto)]
 
 ghost use Rattle.std.specs.Prelude.{◌≡◌, ℕ, false, ◌<◌, ◌≤◌, length, get_or, IfOk};
 ghost use Rattle.meaning.specs.Numbers.{fine, ◌⟫◌};
-ghost use Rattle.meaning.specs.Links.{Given, given, list_of, row_check, list_check};
+ghost use Rattle.meaning.specs.Links.{given, list_check};
 ghost use Rattle.laws.specs.Accept.{Even, Words};
 ghost use Rattle.answers.specs.Paper.{told_check};
 ghost use Rattle.lists.specs.Parts.{size_check, row_numbers, sum_check, rest_check};
@@ -23,7 +23,8 @@ const MOST_LINKS: u64 = 4294967295;
 
 // ---- lists
 
-// A row: its two ends and its weight.
+// A row: its two ends and its weight. Loops that read the three lists in step put a row together themselves: a method that does would have
+// to ask that the row is inside, and of the public functions only those of `table` ask anything.
 #[derive(Clone, Copy, PartialEq, Eq)]
 pub struct Row {
     pub a: u16,
@@ -40,7 +41,7 @@ pub struct Links<'a> {
     pub w: &'a [u16],
 }
 
-// A list that passed its checks. That its weights are 16-bit numbers stands here too, since a proof knows it of a lent list and not of one in a struct.
+// A list that passes its checks. `words` says that its weights are 16-bit numbers: a proof knows that of a lent list, but not of a list in a struct.
 #[derive(Clone, Copy)]
 pub struct Checked<'a> {
     pub links: Links<'a>,
@@ -48,7 +49,8 @@ pub struct Checked<'a> {
     pub ghost words: { Words (given links.n links.a.now links.b.now links.w.now) },
 }
 
-// Three lent lists, into which rows are written.
+// Three lent lists, into which rows are written. A row is stored, and the first rows of a list are taken, where it is done, for the reason beside `Row`.
+// That they are the lists that were lent is a clause (`SameLists`), since a type does not speak of before and after.
 #[derive(Drop)]
 pub struct Columns<'a> {
     pub a: &'a mut [u16],
@@ -90,11 +92,11 @@ pub fn row_check(n: u32, r: usize, row: Row) -> Result<(), Refusal>
     Ok(())
 }
 
-// The sum of the weights, where the rows found nothing.
-pub fn sum_check(told: Result<(), Refusal>, sum: u64) -> Result<(), Refusal>
-    ensures { told_check result ≡ told_check told ⟫ sum_check sum }
+// The sum of the weights. It takes what the rows found, since the first bad row decides: the sum is asked only where no row is bad.
+pub fn sum_check(rows: Result<(), Refusal>, sum: u64) -> Result<(), Refusal>
+    ensures { told_check result ≡ told_check rows ⟫ sum_check sum }
 {
-    told?;
+    rows?;
     if MOST_LINKS < sum {
         return Err(Refusal::OverSum);
     }
@@ -111,7 +113,7 @@ fn words(w: &[u16])
 impl<'a> Links<'a> {
     ghost use Rattle.lists.specs.Given.{given_by, list_by};
 
-    // The rows of lists of one length, and the sum of their weights, in one pass.
+    // The rows of lists of one length, and the sum of their weights, in one pass. The list is not `Checked` yet: a clause says what is known.
     fn check_rows(&self) -> Result<(), Refusal>
         requires { Even (given_by self.now) × (length self.now.a.now ≤ 2048) }
         ensures { told_check result ≡ rest_check (list_by self.now) }
@@ -119,6 +121,7 @@ impl<'a> Links<'a> {
         let Links { n, a, b, w } = *self;
         let mut total: u64 = 0;
         for r in 0..a.len() {
+            // put together here, for the reason beside `Row`
             let row = Row {
                 a: a[r],
                 b: b[r],

@@ -1,2 +1,2 @@
--- `Outcome`: the two ways the call ends, and that it has one outcome.
+-- `Outcome`: both lent lists have room for the order of a list that passes, and the call has one outcome for each input.
 pub mod Outcome

@@ -1,5 +1,5 @@
--- A refusal leaves both lists as they were, and a list that passes gets the order and its back counts: `after` goes by what the check
--- found. Any two outcomes that the promise allows are equal, since each part is an equation with a definition of document 01.
+-- When a list passes the call's check, both lent lists have room for its order. Any two outcomes that the promise allows are equal, since
+-- each part is an equation with a definition of document 01.
 use Prim.Native.Nat.{ℕ, ◌≤◌}
 use mathlib.Core.Path.{◌≡◌, sym, ◌∙◌}
 use mathlib.Core.Bool.{Bool, ◌||◌}

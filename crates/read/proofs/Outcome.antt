@@ -14,7 +14,7 @@ use Rattle.meaning.specs.Numbers.{Check, fine, bad, refused, when, ◌⟫◌, no
 use Rattle.meaning.specs.Links.{list_check}
 use Rattle.meaning.specs.File.{Found, Run, ran, stopped, trailer_at, count_of, run_of, no_room, rows_given, run_check, file_check, list_in}
 use Rattle.laws.specs.Bools.{eqb_same, or-false_left, or-false_right}
-use Rattle.laws.specs.Accept.{then_right, bad_fine, check_fine}
+use Rattle.laws.specs.Accept.{then_assoc, then_right, bad_fine, check_fine}
 use Rattle.lists.specs.Parts.{any_short}
 use Rattle.lists.proofs.Checks.{list_parts}
 use Rattle.answers.specs.declared.Found as Answered
@@ -28,10 +28,6 @@ use Rattle.read.specs.Fill.{Fits}
 use Rattle.read.proofs.Trailer.{end_is, run_is}
 
 -- ---- the parts of a file's checks
-
-then_assoc : (c d e : Check) → (c ⟫ d) ⟫ e ≡ c ⟫ (d ⟫ e)
-then_assoc fine d e = refl
-then_assoc (bad num at) d e = refl
 
 file_parts : (s : List ℕ) (ra rb rc : ℕ) → file_check s ra rb rc ≡ frame_check s ⟫ run_check s (run_of s) ra rb rc
 unfolding file_check

@@ -4,12 +4,10 @@
 // `Scan::decide` finds the first number of what is left in document 01's order, and only then does `Records::fill` store. No byte is copied.
 #![tactic(auto)]
 
-ghost use Rattle.std.specs.Prelude.{◌≡◌, Bool, cond, ◌+◌, ◌*◌, ◌≤◌, ◌<◌, eqb, length, get_or, Option, Some, IfOk};
+ghost use Rattle.std.specs.Prelude.{◌≡◌, Bool, cond, ◌+◌, ◌≤◌, ◌<◌, eqb, length, get_or, Some, IfOk};
 ghost use Rattle.meaning.specs.Sums.{laid};
-ghost use Rattle.meaning.specs.Numbers.{fine, ◌⟫◌};
 ghost use Rattle.meaning.specs.File.{get16, item_at, rows_given, found_in};
 ghost use Rattle.answers.specs.Paper.{told_check};
-ghost use Rattle.lists.specs.Parts.{row_numbers};
 ghost use Rattle.lists.specs.Given.{SameLists};
 ghost use Rattle.roundtrip.specs.Promises.{Reads};
 ghost use Rattle.read.specs.Scan.{placed, record_paper, row_read};
@@ -54,7 +52,7 @@ struct Records<'a> {
 
 // ---- one record
 
-// A number in a file: little-endian.
+// A number in a file: little-endian. Bytes and an offset stay two parameters here and below, as in `File.antt`, whose words the clauses use.
 fn number16(s: &[u8], at: usize) -> u16
     requires { at + 1 < length s.now }
     ensures { result ≡ get16 s.now at }
@@ -111,6 +109,7 @@ impl Scan {
             (Item::Skipped, _) => {}
             (Item::Nodes(n), None) => self.nodes = Some(u32::from(n)),
             (Item::Row(row), Some(n)) => {
+                // Not `self.bad = self.bad.and(lists::row_check(..))`: that would store `bad` again for every row, and a good row leaves it alone.
                 if let Err(e) = lists::row_check(n, self.rows, row) {
                     self.bad = self.bad.and(Err(e));
                 }
@@ -155,6 +154,7 @@ fn lay(s: &[u8], at: usize, i: usize, out: &mut Columns<'_>) -> usize
         return i;
     }
     let row = row_at(s, at);
+    // stored here, for the reason beside `lists::Columns`
     out.a[i] = row.a;
     out.b[i] = row.b;
     out.w[i] = row.w;

@@ -12,7 +12,7 @@ use std::io::Read;
 // One byte more than a file may have.
 const FILE_SPACE: usize = 32769;
 
-// Reads to the end of the input, or until the space is full; answers how many bytes came.
+// Reads to the end of the input, or until the space is full; answers how many bytes came: nothing is allocated here either.
 fn read_all<R: Read>(source: &mut R, file: &mut [u8]) -> io::Result<usize>
     ensures { IfOk result (λ size. size ≤ length file.old) }
 {

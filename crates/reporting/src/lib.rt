@@ -1,7 +1,8 @@
 // The report of a file, as text in lent bytes ("The printing program" of document 01): the summary, the order, the value and the side's
-// nodes; with one node the summary, the order and a refusal; of a refused file the refusal alone. `report` promises for every input that
-// the text is `report_of` of `meaning`, whole or not at all, and that 1,024 bytes are always enough. The text is built in local bytes,
-// each function adding its part at the end (`specs/Adds.antt`), and is copied out once its length is known.
+// nodes. For a list with one node a refusal stands in place of the last two, and for a file that is refused there is the refusal alone.
+// `report` promises for every input that the text is `report_of` of `meaning`, whole or not at all, and that 1,024 bytes are always enough.
+// The text is built in local bytes. Each function adds its part at the end (`specs/Adds.antt`), and the whole is copied out at last, when
+// its length is known.
 #![tactic(auto)]
 
 ghost use Rattle.std.specs.Prelude.{◌≡◌, ℕ, false, List, [], ◌∷◌, ◌++◌, ◌≤◌, length, take};
@@ -22,7 +23,8 @@ use std::marker::Model;
 // As many bytes as are enough for every report.
 pub const TEXT: usize = 1024;
 
-// A text as far as it goes: the bytes at the front. A word or a number that has no room is left out.
+// A text: the first `len` of its bytes. A word or a number that has no room is left out. Bytes and a length, not a `Vec`, since calls
+// allocate nothing.
 #[derive(Drop)]
 struct Text {
     bytes: [u8; TEXT],
@@ -91,7 +93,7 @@ impl Text {
         self.word(b"\n");
     }
 
-    // The line of a refusal.
+    // The line of a refusal. Not by its `Display`: the bytes of a report are laid by the crate `text`, whose clauses say where they stand.
     #[tactic(auto, using(crate::proofs::Spaced::refused_short))]
     fn refusal_line(&mut self, refusal: Refusal)
         ensures adds { Adds self.old self.new (refused_text refusal) }
@@ -107,6 +109,7 @@ impl Text {
 
 impl Text {
     // Line 2.
+    #[tactic(auto, using(lists::proofs::Passed::accepted))]
     fn order_line(&mut self, list: &Checked<'_>)
         ensures adds { Adds self.old self.new (line order_text (order0 (given_by list.now.links))) }
         ensures short { length (line order_text (order0 (given_by list.now.links))) ≤ 408 }
@@ -159,7 +162,8 @@ impl Text {
 
 // ---- the whole
 
-// The list that was read: the first rows of three lists. That it passes its checks is known of what the reader reads.
+// The list that was read, as a list that passed its checks: the first `list.rows` places of three lists. The reader has made these checks,
+// so they are not made again.
 fn first_rows<'a>(list: Found, a: &'a [u16], b: &'a [u16], w: &'a [u16]) -> Checked<'a>
     requires room { (list.rows ≤ length a.now) × (list.rows ≤ length b.now) × (list.rows ≤ length w.now) }
     requires passed { list_check (given list.n (take list.rows a.now) (take list.rows b.now) (take list.rows w.now)) false ≡ fine }
@@ -167,6 +171,7 @@ fn first_rows<'a>(list: Found, a: &'a [u16], b: &'a [u16], w: &'a [u16]) -> Chec
 {
     let links = Links {
         n: list.n,
+        // the first rows, taken here for the reason beside `lists::Columns`
         a: &a[..list.rows],
         b: &b[..list.rows],
         w: &w[..list.rows],
@@ -175,7 +180,7 @@ fn first_rows<'a>(list: Found, a: &'a [u16], b: &'a [u16], w: &'a [u16]) -> Chec
 }
 
 impl Text {
-    // The report of a file's bytes, which goes on only where a list was read.
+    // The report of a file's bytes. It goes on only if a list was read.
     #[tactic(auto, using(crate::proofs::Reading::reads))]
     fn file_lines(&mut self, s: &[u8])
         ensures adds { Adds self.old self.new (report_of s.now) }
@@ -190,6 +195,7 @@ impl Text {
             w: &mut w,
         };
         let found = read::read(s, &mut columns);
+        // Document 01 wants the reader's answer opened by `let else`.
         let Ok(list) = found else {
             self.refusal_line(found.unwrap_err());
             return;
@@ -199,7 +205,7 @@ impl Text {
     }
 }
 
-// The report of a file's bytes, into lent ones: its length, or 14 where it does not fit.
+// Writes the report of a file's bytes into lent bytes and answers its length, or 14 if it does not fit.
 pub fn report(s: &[u8], out: &mut [u8]) -> Result<usize, Refusal>
     ensures { Reported s.now out.old result out.new }
 {

@@ -1,5 +1,5 @@
--- Any two results that the promise of `read` allows are equal, and of `write` too: the paper's answer says which case of the enum it is and each of its
--- fields, and each lent list is what one definition gives.
+-- Any two results that the promise of `read` allows are equal, and of `write` too: the paper's answer says whether the call refuses, with which number
+-- and place, and what it hands on otherwise; and each lent list is what one definition gives.
 use Rattle.std.specs.Prelude.{ℕ, ◌≡◌, List, Result}
 use Rattle.std.proofs.Common.{sym, ◌∙◌}
 use Rattle.meaning.specs.Links.{Given}

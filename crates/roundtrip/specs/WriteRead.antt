@@ -1,6 +1,6 @@
 -- `read` after `write`, from what the two calls promise. Where the writer answers a size, its checks found nothing and that many bytes at the front are the
 -- list's file; so the reader's checks find nothing in them either, and what it lays into the lent lists is the list.
-use Rattle.std.specs.Prelude.{Result, Ok, Err, ℕ, ◌≤◌, ◌≡◌, refl, Bool, false, List, [], ◌∷◌, length, take, drop, ltb}
+use Rattle.std.specs.Prelude.{Result, Ok, ℕ, ◌≤◌, ◌≡◌, refl, Bool, false, List, [], ◌∷◌, length, take, drop, ltb}
 use Rattle.std.proofs.Common.{sym, ◌∙◌, arith, take_at}
 use Rattle.std.proofs.Math.Path.{ap}
 use Rattle.meaning.specs.Sums.{laid}
@@ -12,7 +12,7 @@ use Rattle.laws.specs.Accept.{Words, check_fine}
 use Rattle.answers.specs.declared.Refusal.{Refusal}
 use Rattle.answers.specs.declared.Found.{Found}
 use Rattle.answers.specs.Unique.{found_unique}
-use Rattle.answers.specs.Paper.{found_paper, wrote_paper}
+use Rattle.answers.specs.Paper.{wrote_paper}
 use Rattle.roundtrip.specs.Promises.{Writes, Reads}
 use Rattle.roundtrip.specs.Layout.{length_file}
 use Rattle.roundtrip.specs.RoundTrip.{list_back, check_back}

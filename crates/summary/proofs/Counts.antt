@@ -15,6 +15,7 @@ use Rattle.std.proofs.lemmas.List.Sums.{sum_by_more, sum-map}
 use Rattle.std.proofs.lemmas.List.FromFn.{length-range_with_len, get_or-range_with_len}
 use Rattle.std.proofs.lemmas.Slice.Zip.{length-zip, get_or-zip}
 use Rattle.meaning.specs.Sums.{sum, on}
+use Rattle.laws.specs.Bools.{from_on}
 use Rattle.laws.specs.Sums.{sum_none, sum-suc, sum_ext}
 
 -- the first k elements
@@ -31,10 +32,6 @@ by_place f xs d n all = ap (sum_by f) (sym (take_all n xs (omega arith))) ∙ fr
 pub total_by_place : (xs : List ℕ) → total xs ≡ sum (length xs) (λ i. get_or xs i 0)
 total_by_place xs = by_place (λ x. x) xs 0 (length xs) refl
 
-byte_on : (t : Bool) → from_bool t ≡ on t 1
-byte_on true = refl
-byte_on false = refl
-
 cond_on : (t : Bool) → cond t 1 0 ≡ on t 1
 cond_on true = refl
 cond_on false = refl
@@ -50,7 +47,7 @@ pairs_by_place a b r x y in_a in_b =
     ∙ by_place like ps (0, 0) r (omega (arith, length-zip (take r a) (take r b), length-take-le r a in_a, length-take-le r b in_b))
     ∙ sum_ext r (λ j. like (get_or ps j (0, 0))) (λ j. on (eqb (get_or a j 0) x && eqb (get_or b j 0) y) 1)
     (λ j below. rw (get_or-zip (take r a) (take r b) j (0, 0) (omega (arith, length-take-le r a in_a)) (omega (arith, length-take-le r b in_b)), get_or-take r a j 0 below, get_or-take r b j 0 below)
-    (byte_on (eqb (get_or a j 0) x && eqb (get_or b j 0) y)))
+    (from_on (eqb (get_or a j 0) x && eqb (get_or b j 0) y)))
 
 -- the numbers below n that pass a test
 pub count_by_place : (t : ℕ → Bool) (n : ℕ) → count_by t (range_with_len 0 n) ≡ sum n (λ r. on (t r) 1)

@@ -14,7 +14,7 @@ ghost use Rattle.lists.specs.Given.{given_by, list_by};
 use answers::{Refusal, Totals};
 use lists::{Checked, Links};
 
-// The rows of two columns that have the ends x and y.
+// The rows of two columns that have the ends x and y: of a part of a list, which is no list that passed.
 fn rows_like(a: &[u16], b: &[u16], x: u16, y: u16) -> u16
     requires few { length a.now ≤ 2048 }
     ensures { result ≡ sum (map (λ p. from_bool (p.0 == x && p.1 == y)) (zip a.now b.now)) }

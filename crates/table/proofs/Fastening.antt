@@ -19,11 +19,12 @@ use Rattle.laws.specs.Sums.{sum_term_le}
 use Rattle.method.specs.Question.{NoneBelow}
 use Rattle.method.specs.Floor.{Gathers}
 use Rattle.method.specs.Hang.{Hangs, hang_step}
-use Rattle.table.specs.Floor.{front, Stored}
+use Rattle.table.specs.Floor.{Squeezed, front, Stored}
 use Rattle.table.specs.Degrees.{Degrees}
 use Rattle.table.specs.Hang.{Joins, Hung}
 use Rattle.table.specs.Kept.{Gathered}
-use Rattle.table.proofs.Storing.{few, rows_are, stored_cut}
+use Rattle.table.specs.Rest.{rest_of, Smaller}
+use Rattle.table.proofs.Storing.{few, rows_are, stored_cut, squeezed_stored, squeezed_gathers}
 
 -- the least of a number and a list is at most each of them
 pub fold_first : (best : ℕ) (l : List ℕ) → fold min best l ≤ best
@@ -71,8 +72,21 @@ module _ {n rows : ℕ} {a b w : List ℕ} (s : Stored n rows a b w) where
           many = λ v h ne. omega (arith, degree v h, lowest v h);
         }
 
-    -- one node for each target
-    pub fastened : {c : ℕ} {name₀ name : List ℕ} (M : LinkList) → Gathered n to name₀ name c → Gathers L M (λ v. get_or name v 0)
+    -- what no division of the list with one node for each target is below, up to `low`, none of the list is below
+    pub fastened_none : {c : ℕ} {name₀ name : List ℕ} (M : LinkList) → Gathered n to name₀ name c → Gathers L M (λ v. get_or name v 0)
         → (x : ℕ) → x ≤ low → NoneBelow M x → NoneBelow L x
-    fastened {name = name} M gathered gathers x under =
+    fastened_none {name = name} M gathered gathers x under =
         hang_step L s.accepted x (λ v. get_or to v 0) (hangs x under) M (λ v. get_or name v 0) gathers gathered.same
+
+    -- one node for each target: the renamed rows that are left are stored, with no more nodes, and lose no division below `low`
+    pub fastened : {best c left : ℕ} {name₀ name a' b' w' : List ℕ} → low ≤ best → Gathered n to name₀ name c
+        → Squeezed rows name a b w a' b' w' left → (q : Stored c left a' b' w') × Smaller best (rest_of s) (rest_of q) low
+    fastened {c = c} {left} {a' = a'} {b'} {w'} le gathered sq =
+        let some : 1 ≤ c = gathered.some s.accepted.some_node in (
+          squeezed_stored s gathered.below some gathered.few sq,
+          record {
+            fewer = gathered.few;
+            lower = le;
+            none = fastened_none (front c left a' b' w') gathered (squeezed_gathers s gathered.below some gathered.few sq);
+          },
+        )

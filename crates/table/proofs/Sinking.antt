@@ -18,9 +18,9 @@ use Rattle.method.specs.Order.{Ordered, order_ordered}
 use Rattle.method.specs.Question.{NoneBelow}
 use Rattle.method.specs.Floor.{begins, runs, Names, Gathers, floor_step}
 use Rattle.table.specs.declared.rest.Rest.{Rest}
-use Rattle.table.specs.Floor.{Named}
-use Rattle.table.specs.Rest.{left_of, Shrinking, Turn}
-use Rattle.table.proofs.Storing.{few}
+use Rattle.table.specs.Floor.{Named, Squeezed, front, Stored}
+use Rattle.table.specs.Rest.{left_of, rest_of, Shrinking, Turn, Smaller}
+use Rattle.table.proofs.Storing.{few, squeezed_stored, squeezed_gathers}
 
 module _ {r : Rest} {order back : List ℕ} (s : Shrinking r order back) where
   abbrev L : LinkList
@@ -70,9 +70,9 @@ module _ {r : Rest} {order back : List ℕ} (s : Shrinking r order back) where
         let at : suc (called v) ≡ runs back best (suc p) = ap (λ u. suc (called u)) (sym e) ∙ names p l in
         omega (arith, at, size_longer (suc p) n (begins back best) (omega (arith, long)), named.begun)
 
-    -- one node for each run
-    pub joined : (M : LinkList) → Gathers L M called → (x : ℕ) → x ≤ best → NoneBelow M x → NoneBelow L x
-    joined M gathers = floor_step L r.stored.accepted 0 some back backs best called names M gathers
+    -- what no division of the list with one node for each run is below, up to `best`, none of the list is below
+    pub joined_none : (M : LinkList) → Gathers L M called → (x : ℕ) → x ≤ best → NoneBelow M x → NoneBelow L x
+    joined_none M gathers = floor_step L r.stored.accepted 0 some back backs best called names M gathers
 
 -- ---- how many runs
 
@@ -95,6 +95,25 @@ module _ {best : ℕ} {r : Rest} {order back : List ℕ} (t : Turn best r order 
           on-false (begins back best (n - 1)) 1 (le-ltb (get_or back (n - 1) 0) best t.low),
           size_most (n - 1) (begins back best),
         ),
+      )
+
+  -- one node for each run: the renamed rows that are left are stored, with fewer nodes, and lose no division below `best`
+  pub joined : {name₀ name a' b' w' : List ℕ} {c left : ℕ} → Named r.nodes best order back name₀ name c
+      → Squeezed r.rows name r.a r.b r.w a' b' w' left
+      → (q : Stored c left a' b' w') × Smaller best r (rest_of q) best × (c < r.nodes)
+  joined {name = name} {a'} {b'} {w'} {c} {left} named sq =
+      let count = few_runs in
+      let one : 1 ≤ c = omega (arith, named.begun) in
+      let fewer : c < r.nodes = omega (arith, named.begun) in
+      let most : c ≤ r.nodes = omega arith in
+      let below = name_below t.shrinking named in (
+        squeezed_stored r.stored below one most sq,
+        record {
+          fewer = most;
+          lower = omega arith;
+          none = joined_none t.shrinking named (front c left a' b' w') (squeezed_gathers r.stored below one most sq);
+        },
+        fewer,
       )
 
 -- ---- all turns

@@ -2,12 +2,16 @@
 use Rattle.std.specs.Prelude.{ℕ, ◌-◌, ◌≤◌, ◌≡◌, List, get_or}
 use Rattle.meaning.specs.Links.{LinkList}
 use Rattle.method.specs.Question.{NoneBelow}
-use Rattle.table.specs.Floor.{front, Along}
+use Rattle.table.specs.Floor.{front, Stored, Along}
 use Rattle.table.specs.declared.rest.Rest.{Rest}
 
 -- the list that is left
 abbrev pub left_of : Rest → LinkList
 left_of r = front r.nodes r.rows r.a r.b r.w
+
+-- an accepted list in the first rows of three lists, as that struct
+abbrev pub rest_of : {n rows : ℕ} {a b w : List ℕ} → Stored n rows a b w → Rest
+rest_of {n} {rows} {a} {b} {w} s = record { nodes = n; rows = rows; a = a; b = b; w = w; stored = s }
 
 -- two or more nodes are left, and this is their order
 pub record Shrinking (r : Rest) (order back : List ℕ) : Type 0 where

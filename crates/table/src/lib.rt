@@ -19,7 +19,8 @@ pub use rest::{floor, number};
 // The places of the table.
 pub const CELLS: usize = NODES * NODES;
 
-// The mark of a free node in its score: above every number of cables.
+// The mark of a free node in its score: above every number of cables. It stays in the score, since the clause `ready` of `run` says so of what
+// its callers hand over.
 pub const OPEN: u32 = 1073741824;
 
 // ---- the table of a list
@@ -37,7 +38,7 @@ fn join(x: usize, y: usize, c: u32, m: &mut [u32; CELLS])
 // The table of the rows, in a table of zeros.
 pub fn fill(links: &Links<'_>, m: &mut [u32; CELLS])
     requires rows { Rows links.now.a.now links.now.b.now links.now.w.now }
-    requires zeros { (i : ℕ) → i < 16384 → get_or m.old i 0 ≡ 0 }
+    requires zeros { (i : ℕ) → i < CELLS → get_or m.old i 0 ≡ 0 }
     ensures { (n : ℕ) → Holds (list_of (given n links.now.a.now links.now.b.now links.now.w.now)) m.new }
 {
     let Links { a, b, w, .. } = *links;
@@ -63,7 +64,7 @@ fn add_row(score: &mut [u32; NODES], row: &[u32], n: usize) -> u32
     top
 }
 
-// Whether one of the scores is `top`. No branch, so that the compiler turns it into vectors.
+// Whether one of the scores is `top`. No branch, as `any` would have, so that the compiler turns it into vectors.
 fn any_of(scores: &[u32], top: u32) -> bool
     ensures { result ≡ list_any (λ s. eqb s top) scores.now }
 {
@@ -107,7 +108,8 @@ fn place(n: usize, m: &[u32; CELLS], score: &mut [u32; NODES], x: usize) -> usiz
 }
 
 // The first `count` nodes of the order from the start, and their back counts, for a table and scores that are ready for it.
-// The scores at exit are left as they fall.
+// The scores at exit are left as they fall. Seven parameters: the table and the scores are the callers' own working room, and the order and its
+// back counts are lists that callers of the C interface lend, of which a part is written.
 pub fn run(
     n: usize,
     count: usize,

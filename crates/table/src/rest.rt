@@ -31,6 +31,8 @@ pub fn number(label: &mut [u16])
 
 // ---- runs of an order
 
+// Here and below an array has the number of its places in use beside it: a part of it, lent as a slice, would need its length in a clause again.
+
 // Names each of the first `count` nodes of an order by its run: a node with a back count below `best` begins one. How many there are.
 fn name_runs(
     count: usize,
@@ -148,7 +150,7 @@ fn squeeze(
     to
 }
 
-// Copies a column to the front of an array.
+// Copies a column to the front of an array. A function, since the check has no rule for a part of a field lent by a struct with a ghost field.
 fn lay(from: &[u16], to: &mut [u16; ROWS])
     requires { length from.now ≤ ROWS }
     ensures { to.new ≡ laid from.now to.old }
@@ -156,7 +158,8 @@ fn lay(from: &[u16], to: &mut [u16; ROWS])
     to[..from.len()].copy_from_slice(from);
 }
 
-// A list in the first rows of three arrays.
+// A list in the first rows of three arrays. They have a count beside them, since calls allocate nothing; and they are three, as the lists that the
+// C interface lends are, so that what orders a caller's list orders this one too.
 #[derive(Drop)]
 struct Rest {
     nodes: usize,
@@ -272,6 +275,7 @@ impl Rest {
     {
         let links = Links {
             n: self.nodes as u32,
+            // the first rows, taken here for the reason beside `lists::Columns`
             a: &self.a[..self.rows],
             b: &self.b[..self.rows],
             w: &self.w[..self.rows],
@@ -280,7 +284,8 @@ impl Rest {
     }
 
     // A number that no division is below. Each run of the order becomes one node, what hangs is fastened, and the list that is left is ordered
-    // afresh, until one node is left. Gives up, with 0, which no division is below, where a turn takes off less than an eighth of the nodes.
+    // afresh, until one node is left. Gives up where a turn takes off less than an eighth of the nodes: with 0,
+    // which is a floor of every list, so that no caller has a second case.
     fn sink(&mut self, order: &mut [u16; NODES], back: &mut [u32; NODES]) -> u32
         requires { Shrinking self.old order.old back.old }
         ensures { NoneBelow (left_of self.old) result }
@@ -308,7 +313,7 @@ pub fn floor(list: &Checked<'_>, order: &mut [u16; NODES], back: &mut [u32; NODE
     requires along { Along (list_by list.now.links) order.old back.old }
     ensures { NoneBelow (list_by list.now.links) result }
 {
-    // one node with no rows, until the list stands in it: so its rows are copied once
+    // one node with no rows at first: `load` copies the list's rows to where they stay. Arrays filled before would be copied again, into the struct
     let mut rest = Rest {
         nodes: 1,
         rows: 0,

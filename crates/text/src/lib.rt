@@ -10,7 +10,8 @@ ghost use Rattle.text.specs.Put.{put, past};
 // The bytes of a 64-bit number, and one more for the space before it.
 const NUMBER_BYTES: usize = 21;
 
-// A word.
+// A word. Here and in `number`, `out` and `at` stay two parameters: docs/CALLS.md names both functions with this promise, bytes put at a
+// place of lent bytes. `Text` of `reporting` is the struct of the two.
 pub fn word(out: &mut [u8], at: usize, new: &[u8]) -> usize
     ensures { (out.new ≡ put at new.now out.old) × (result ≡ past at new.now out.old) }
 {
@@ -41,7 +42,7 @@ fn digits_of(x: u64, space: &mut [u8; NUMBER_BYTES]) -> usize
     from
 }
 
-// A space and a number in plain decimal.
+// A space and a number in plain decimal. `out` and `at` are two parameters for the reason given at `word`.
 pub fn number(out: &mut [u8], at: usize, x: u64) -> usize
     ensures { (out.new ≡ put at (spaced (x ∷ [])) out.old) × (result ≡ past at (spaced (x ∷ [])) out.old) }
 {

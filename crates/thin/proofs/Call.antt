@@ -1,12 +1,12 @@
 -- The answers of `kept` and `short` from what the checks found and the passes left. Any two results that a contract allows are equal.
-use Rattle.std.specs.Prelude.{ℕ, ◌≡◌, refl, ◌≤◌, Bool, ◌||◌, List, [], ◌∷◌, map, length, Result, Ok, Err, ⊤, eqb, ltb}
-use Rattle.std.proofs.Common.{sym, ap, ◌∙◌, arith, ltb-false, le-ltb}
+use Rattle.std.specs.Prelude.{ℕ, ◌≡◌, refl, ◌≤◌, Bool, ◌||◌, List, [], ◌∷◌, map, length, Result, Ok, ⊤, eqb, ltb}
+use Rattle.std.proofs.Common.{sym, ap, ◌∙◌, arith, ltb-false}
 use Rattle.std.proofs.lemmas.List.{length-map}
 use Rattle.meaning.specs.Sums.{laid, listed}
-use Rattle.meaning.specs.Numbers.{fine, when, zero_k, done, answered, after}
+use Rattle.meaning.specs.Numbers.{when, zero_k, done, answered, after}
 use Rattle.meaning.specs.Links.{Given, list_of, list_check}
 use Rattle.meaning.specs.Forest.{kepts_of, stays}
-use Rattle.meaning.specs.Calls.{order0, forest_check, short_given}
+use Rattle.meaning.specs.Calls.{order0, short_given}
 use Rattle.answers.specs.Unique.{told_unique, wrote_unique}
 use Rattle.answers.specs.declared.Refusal.{Refusal}
 use Rattle.laws.specs.Bools.{or-false_left, or-false_right}
@@ -15,24 +15,13 @@ use Rattle.lists.specs.Parts.{any_short}
 use Rattle.lists.specs.declared.Checked.{Checked}
 use Rattle.lists.specs.declared.Columns.{Columns}
 use Rattle.lists.proofs.Passed.{Passed, passed}
-use Rattle.forest.specs.Forest.{FirstNumbers}
 use Rattle.thin.specs.Passes.{kept_at, stays_in, Roomy, Shortened}
 use Rattle.thin.specs.Thin.{KeptWeights, ShortList, Thinnable}
 use Rattle.thin.proofs.Numbers.{kepts, stays-map, stays_weights}
 
 -- ---- the checks and the numbers
 
--- a list that passed is not refused by `forest`, which has a place for each row
-module _ (g : Given) (short : Bool) (first : List ℕ) (ok : fine ≡ list_check g short) (room : 2048 ≤ length first) where
-  no_check : forest_check g (length first) ≡ fine
-  no_check =
-      let p = passed g short (sym ok) in
-      ap (list_check g) (le-ltb (length first) (length g.la) (omega (arith, p.few_rows)) ∙ sym p.roomy) ∙ sym ok
-
-  pub no_refusal : {e : Refusal} {first' : List ℕ} → FirstNumbers g first (Err e) first' → ⊥
-  no_refusal f = let no = f.answer ∙ ap (λ c. answered c []) no_check in cc
-
--- where they find nothing
+-- where the checks find nothing
 module _ {g : Given} {k : ℕ} {short : Bool} {first first' : List ℕ} {list : Checked} (h : Thinnable g k short first (Ok list) first') where
   list_passed : Passed g short
   list_passed = passed g short (then_left (list_check g short) (when (eqb k 0) zero_k 0) (sym h.found))

@@ -1,7 +1,7 @@
 // Thinning for k: the kept weight of each row, and the short list (document 01, "Order, forests, thinning").
 //
-// Both calls number the rows by `forest` and pass over them once. `kept` promises, for every input, its answer and every place of the
-// lent list (`meaning`'s `kepts_of`); `short` the same of its three lists and the number of rows written (`short_given`).
+// Both calls check the list, number its rows by `forest::firsts` and pass over them once. `kept` promises, for every input, its answer and
+// every place of the lent list (`meaning`'s `kepts_of`); `short` the same of its three lists and the number of rows written (`short_given`).
 #![tactic(auto)]
 
 ghost use Rattle.std.specs.Prelude.{◌≡◌, ◌+◌, ◌≤◌, ◌<◌, length, IfOk};
@@ -14,8 +14,9 @@ ghost use Rattle.thin.specs.Passes.{kept_at, thinned, Roomy, Put, Shortened};
 use answers::Refusal;
 use lists::{Checked, Columns, Links, ROWS, Row};
 
-// What a row of weight w keeps whose first cable has the number f: k + 1 - f, and at most w. As k + 1 may pass 32 bits, f is taken off
-// first; a number that then does not fit is above every weight.
+// What a row of weight w keeps whose first cable has the number f: k + 1 - f, but no less than 0 and no more than w. k + 1 may not fit in
+// 32 bits, so f is subtracted first and 1 added after. Where even that does not fit, the sum stays at the largest 32-bit number, which is
+// more than any weight.
 fn kept_of(k: u32, f: u32, w: u16) -> u16
     ensures { result ≡ kept_of k f w }
 {
@@ -25,24 +26,29 @@ fn kept_of(k: u32, f: u32, w: u16) -> u16
     }
 }
 
+// In the passes below k, the list and its first numbers stay three parameters: a struct of the three would be made and taken apart at once.
+
 // The kept weights, one per row.
+#[tactic(auto, using(lists::proofs::Passed::accepted))]
 fn keep(k: u32, list: &Checked<'_>, first: &[u32; ROWS], kept: &mut [u16])
     requires { length list.now.links.w.now ≤ length kept.old }
     ensures { kept.new ≡ laid (listed (length list.now.links.w.now) (kept_at k first.now (list_by list.now.links))) kept.old }
 {
     let w = list.links.w;
-    // By index, as the list is written for as many rows as there are, and may be longer.
+    // By index: `kept` may be longer than the list, and only its first places are written, one for each row.
     for r in 0..w.len() {
         kept[r] = kept_of(k, first[r], w[r]);
     }
 }
 
 // Row r with its kept weight.
+#[tactic(auto, using(lists::proofs::Passed::accepted))]
 fn thinned(k: u32, list: &Checked<'_>, first: &[u32; ROWS], r: usize) -> Row
     requires { r < length list.now.links.a.now }
     ensures { result ≡ thinned k first.now (list_by list.now.links) r }
 {
     let Links { a, b, w, .. } = list.links;
+    // put together here, for the reason beside `lists::Row`
     Row {
         a: a[r],
         b: b[r],
@@ -50,7 +56,8 @@ fn thinned(k: u32, list: &Checked<'_>, first: &[u32; ROWS], r: usize) -> Row
     }
 }
 
-// A row is put at the place `at` of the short list, unless it keeps nothing. The next place.
+// Puts a row at the place `at` of the short list and answers the next place. A row that keeps nothing is left out, and `at` is answered.
+// Weight 0 stands for "keeps nothing", as in `kept_of` of `meaning` and in the lists that the call `kept` writes.
 fn put(row: Row, at: usize, out: &mut Columns<'_>) -> usize
     requires { Roomy (at + 1) out.old }
     ensures same { SameLists out.old out.new }
@@ -59,6 +66,7 @@ fn put(row: Row, at: usize, out: &mut Columns<'_>) -> usize
     if row.w == 0 {
         return at;
     }
+    // stored here, for the reason beside `lists::Columns`
     out.a[at] = row.a;
     out.b[at] = row.b;
     out.w[at] = row.w;
@@ -95,7 +103,7 @@ fn number<'a>(
     if k == 0 {
         return Err(Refusal::ZeroK);
     }
-    forest::forest(links, first)?;
+    forest::firsts(&list, first);
     Ok(list)
 }
 

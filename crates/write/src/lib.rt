@@ -12,6 +12,11 @@ ghost use Rattle.lists.specs.Given.{given_by, list_by};
 use answers::Refusal;
 use lists::{Checked, Links, Row};
 
+// The kinds of record that are written. The reader names those that it reads: for two numbers of the layout a crate of both is no plainer.
+const NODES: u8 = 1;
+
+const ROW: u8 = 2;
+
 // Whether the file of so many rows does not fit. Asked without adding, since 8 x rows need not fit a number.
 fn too_short(room: usize, rows: usize) -> bool
     ensures { result ≡ ltb room (file_bytes rows) }
@@ -24,7 +29,7 @@ fn nodes_record(n: u16) -> [u8; 4]
     ensures { result ≡ 4 ∷ 1 ∷ bytes16 n }
 {
     let [low, high] = n.to_le_bytes();
-    [4, 1, low, high]
+    [4, NODES, low, high]
 }
 
 // The record of a row.
@@ -34,7 +39,7 @@ fn row_record(row: Row) -> [u8; 8]
     let a = row.a.to_le_bytes();
     let b = row.b.to_le_bytes();
     let w = row.w.to_le_bytes();
-    [8, 2, a[0], a[1], b[0], b[1], w[0], w[1]]
+    [8, ROW, a[0], a[1], b[0], b[1], w[0], w[1]]
 }
 
 // The trailer: start 0, the row count, the mark.
@@ -56,6 +61,7 @@ fn put_file(list: &Checked<'_>, out: &mut [u8]) -> usize
     let Links { n, a, b, w } = list.links;
     out[..4].copy_from_slice(&nodes_record(n as u16));
     for r in 0..a.len() {
+        // put together here, for the reason beside `lists::Row`
         let row = Row {
             a: a[r],
             b: b[r],

@@ -4,9 +4,11 @@ use Rattle.std.proofs.Common.{false, ◌-◌, refl, ◌∙◌, sym, arith}
 use Rattle.std.proofs.lemmas.List.{get_or-replicate}
 use Rattle.laws.specs.Accept.{fine_accepted}
 use Rattle.lists.specs.Given.{given_by, list_by}
+use Rattle.table.proofs.Begin.{passed_rows}
+use Rattle.table.proofs.Storing.{ran_along}
 use Rattle.least.proofs.Grouping.{grouped_first}
-use Rattle.least.proofs.First.{ran_along, first_notes}
-use Rattle.least.proofs.Outcome.{node_bounds, good_rows, gives}
+use Rattle.least.proofs.First.{first_notes}
+use Rattle.least.proofs.Outcome.{node_bounds, gives}
 use Rattle.least.proofs.split.Goals as goal
 
 pub prove-unreachable-requires : goal.prove-unreachable-requires
@@ -32,7 +34,7 @@ returns-then-value-low c =
     c.number.auto.label c.number.ensures (rw size at c.side-side.ensures) c.floor-low.ensures (rw size at c.if-value-low.true)))
 
 pub fill-requires-clause-rows : goal.fill-requires-clause-rows
-fill-requires-clause-rows c = good_rows (given_by c.args.list.now.links) c.args.list.now.passed
+fill-requires-clause-rows c = passed_rows (given_by c.args.list.now.links) c.args.list.now.words c.args.list.now.passed
 
 pub fill-requires-clause-zeros : goal.fill-requires-clause-zeros
 fill-requires-clause-zeros c = λ i h. get_or-replicate 16384 i 0 0 h

@@ -1,18 +1,14 @@
 -- `keep` meets its contract: a kept weight more stands in the list, and a store changes no other place.
-use Rattle.std.proofs.Common.{refl, arith, false}
+use Rattle.std.proofs.Common.{refl, arith}
 use Rattle.meaning.specs.Sums.{listed}
 use Rattle.laws.specs.Filling.{filled_more}
-use Rattle.lists.specs.Given.{given_by, list_by}
-use Rattle.lists.proofs.Passed.{passed}
+use Rattle.lists.specs.Given.{list_by}
 use Rattle.thin.specs.Passes.{kept_at}
 use Rattle.thin.proofs.keep.Goals as goal
 
 pub loop-r-init : goal.loop-r-init
 unfolding listed
 loop-r-init c = refl
-
-pub bounds-first-r : goal.bounds-first-r
-bounds-first-r c = let p = passed (given_by c.args.list.now.links) false c.args.list.now.passed in omega (arith, p.even.as_w, p.few_rows)
 
 pub loop-r-preserved : goal.loop-r-preserved
 loop-r-preserved c =

@@ -1,20 +1,12 @@
 -- `number_rows` meets its contract: each row's number is read from its cell, and the rows from the next on may then be numbered.
-use Rattle.std.proofs.Common.{false, refl, arith}
+use Rattle.std.proofs.Common.{refl, arith}
 use Rattle.meaning.specs.Sums.{listed}
-use Rattle.lists.specs.Given.{given_by}
-use Rattle.lists.proofs.Passed.{passed}
 use Rattle.forest.proofs.Numbering.{room, goes_on, first_laid}
 use Rattle.forest.proofs.Scan.number_rows.Goals as goal
 
 pub loop-r-init : goal.loop-r-init
 unfolding listed
 loop-r-init c = record { scannable = c.requires.turned; laid_so_far = refl }
-
-pub bounds-b-r : goal.bounds-b-r
-bounds-b-r c = let p = passed (given_by c.args.list.now.links) false c.args.list.now.passed in omega (arith, p.even.as_b)
-
-pub bounds-w-r : goal.bounds-w-r
-bounds-w-r c = let p = passed (given_by c.args.list.now.links) false c.args.list.now.passed in omega (arith, p.even.as_w)
 
 pub number_row-requires-clause-room : goal.number_row-requires-clause-room
 number_row-requires-clause-room c = room c.loop-r.invariant.scannable (omega arith)

@@ -1,16 +1,11 @@
 -- In 128 places `order` never refuses a list that passed, and the front of what it leaves is the order (`Ordering.antt`).
-use Rattle.std.proofs.Common.{ap, sym, ◌∙◌, arith, false, length}
+use Rattle.std.proofs.Common.{ap, sym, ◌∙◌, length}
 use Rattle.lists.specs.Given.{given_by}
-use Rattle.lists.proofs.Passed.{passed}
 use Rattle.reporting.proofs.Ordering.{order_fits, order_length, order_short, order_listed}
 use Rattle.reporting.proofs.Text.order_line.Goals as goal
 
 pub unwrap-requires : goal.unwrap-requires
 unwrap-requires c = order_fits (given_by c.args.list.now.links) c.args.list.now.passed c.order.ensures
-
-pub slice_bounds-order-end-3 : goal.slice_bounds-order-end-3
-slice_bounds-order-end-3 c =
-    omega (arith, c.nodes.ensures, (passed (given_by c.args.list.now.links) false c.args.list.now.passed).few_nodes)
 
 pub slice_bounds-list_line-end-2 : goal.slice_bounds-list_line-end-2
 slice_bounds-list_line-end-2 c =

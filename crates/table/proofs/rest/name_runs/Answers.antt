@@ -2,7 +2,8 @@
 use Rattle.std.proofs.Common.{◌≤◌, ◌∙◌, arith}
 use Rattle.laws.specs.Choose.{size_most}
 use Rattle.method.specs.Floor.{begins}
-use Rattle.table.proofs.Tests.{from_on, from_most}
+use Rattle.laws.specs.Bools.{from_on}
+use Rattle.table.proofs.Tests.{from_most}
 use Rattle.table.proofs.Naming.{named_none, named_more}
 use Rattle.table.proofs.rest.name_runs.Goals as goal
 

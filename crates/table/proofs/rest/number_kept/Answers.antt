@@ -4,7 +4,8 @@ use Rattle.meaning.specs.Sums.{on}
 use Rattle.laws.specs.Filling.{upto_none, upto_more}
 use Rattle.laws.specs.Choose.{size_none, size_most}
 use Rattle.table.specs.Kept.{own}
-use Rattle.table.proofs.Tests.{from_on, from_most}
+use Rattle.laws.specs.Bools.{from_on}
+use Rattle.table.proofs.Tests.{from_most}
 use Rattle.table.proofs.Gathering.{own_more}
 use Rattle.table.proofs.rest.number_kept.Goals as goal
 

@@ -1,6 +1,6 @@
 -- `squeeze` meets its contract: a row goes to a place at or before its own, so `Squeezing` goes on by a row.
 use Rattle.std.proofs.Common.{arith}
-use Rattle.table.proofs.Tests.{from_on}
+use Rattle.laws.specs.Bools.{from_on}
 use Rattle.table.proofs.Squeezing.{squeezing_none, squeezing_more}
 use Rattle.table.proofs.rest.squeeze.Goals as goal
 

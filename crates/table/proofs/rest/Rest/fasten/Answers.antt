@@ -4,7 +4,7 @@ use Rattle.std.proofs.lemmas.List.{get_or-replicate}
 use Rattle.std.proofs.Math.Seq.{get_or-take, length-take-le}
 use Rattle.table.specs.Rest.{left_of}
 use Rattle.table.proofs.Storing.{few}
-use Rattle.table.proofs.Fastening.{fold_first, fold_least, fastened}
+use Rattle.table.proofs.Fastening.{fold_first, fold_least, fastened_none}
 use Rattle.table.proofs.rest.Rest.fasten.Goals as goal
 
 pub degrees-requires : goal.degrees-requires
@@ -24,5 +24,5 @@ returns c =
     record {
       fewer = omega (arith, c.rename.ensures.count, c.gather-nodes.ensures.few);
       lower = omega (arith, c.lowest-low.ensures, fold_first c.args.best (take n deg));
-      none = fastened rest.stored refl c.degrees.ensures low c.hang.ensures (left_of c.rename.new.self) c.gather-nodes.ensures c.rename.ensures.gathers;
+      none = fastened_none rest.stored refl c.degrees.ensures low c.hang.ensures (left_of c.rename.new.self) c.gather-nodes.ensures c.rename.ensures.gathers;
     }

@@ -1,7 +1,7 @@
 -- `join_runs` meets its contract: the renamed rows are the list with one node for each run.
 use Rattle.std.proofs.Common.{arith}
 use Rattle.table.specs.Rest.{left_of}
-use Rattle.table.proofs.Sinking.{order_below, order_once, name_below, joined, begins_low, few_runs}
+use Rattle.table.proofs.Sinking.{order_below, order_once, name_below, joined_none, begins_low, few_runs}
 use Rattle.table.proofs.rest.Rest.join_runs.Goals as goal
 
 pub name_runs-nodes-requires-clause-begun : goal.name_runs-nodes-requires-clause-begun
@@ -27,7 +27,7 @@ returns-clause-smaller c =
     record {
       fewer = omega (arith, c.name_runs-nodes.ensures.begun, c.rename.ensures.count);
       lower = omega arith;
-      none = joined c.requires.shrinking c.name_runs-nodes.ensures (left_of c.rename.new.self) c.rename.ensures.gathers;
+      none = joined_none c.requires.shrinking c.name_runs-nodes.ensures (left_of c.rename.new.self) c.rename.ensures.gathers;
     }
 
 pub returns-clause-fewer : goal.returns-clause-fewer
