@@ -78,7 +78,8 @@ impl Scan {
         self.spread(&order[..n]);
     }
 
-    // The cell of a row between x and y: that of its earlier end and its later.
+    // The cell of a row between x and y: that of its earlier end and its later. Both are below 128 by a clause, for the
+    // reason beside `join` of `table`.
     fn cell_of(&self, x: u16, y: u16) -> usize
         requires ends { (x < 128) × (y < 128) }
         ensures cell { result ≡ cell_of self.now.place x y }

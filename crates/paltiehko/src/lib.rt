@@ -83,7 +83,7 @@ fn laid_out<T: Fields>(answer: Result<T, Refusal>) -> [u64; 8]
     [u64::from(number), place as u64, a, b, c, d, e, f]
 }
 
-// ---- calls
+// ---- calls: the lists are lent one by one, and not as `Links` or `Columns`, since that is how the C interface lends them
 
 #[unsafe(no_mangle)]
 pub extern "C" fn paltiehko_read(

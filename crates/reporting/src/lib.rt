@@ -163,7 +163,7 @@ impl Text {
 // ---- the whole
 
 // The list that was read, as a list that passed its checks: the first `list.rows` places of three lists. The reader has made these checks,
-// so they are not made again.
+// so they are not made again: here the `Checked` list is made.
 fn first_rows<'a>(list: Found, a: &'a [u16], b: &'a [u16], w: &'a [u16]) -> Checked<'a>
     requires room { (list.rows ≤ length a.now) × (list.rows ≤ length b.now) × (list.rows ≤ length w.now) }
     requires passed { list_check (given list.n (take list.rows a.now) (take list.rows b.now) (take list.rows w.now)) false ≡ fine }

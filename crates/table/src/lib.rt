@@ -25,7 +25,8 @@ pub const OPEN: u32 = 1073741824;
 
 // ---- the table of a list
 
-// Adds the c cables of a row from x to y: the table holds them both ways.
+// Adds the c cables of a row from x to y: the table holds them both ways. That both are below 128 is a clause, here and wherever two ends come: a node
+// is an index, checked where it is used.
 fn join(x: usize, y: usize, c: u32, m: &mut [u32; CELLS])
     requires inside { (x < NODES) × (y < NODES) }
     requires light { (i : ℕ) → i < CELLS → get_or m.old i 0 + c + c < 4294967296 }
@@ -48,6 +49,8 @@ pub fn fill(links: &Links<'_>, m: &mut [u32; CELLS])
 }
 
 // ---- the order on a table
+
+// n and the count stand beside the arrays here and below: a part of one, lent as a slice, would need its length in a clause again.
 
 // Adds a row of the table to the scores of the first n nodes; their highest. One plain pass, which the compiler turns into vectors.
 fn add_row(score: &mut [u32; NODES], row: &[u32], n: usize) -> u32
@@ -137,7 +140,7 @@ pub fn order_of(list: &Checked<'_>, order: &mut [u16], back: &mut [u32])
     requires room { (list.now.links.n ≤ length order.old) × (list.now.links.n ≤ length back.old) }
     ensures { Ran (list_by list.now.links) all list.now.links.n 0 order.old order.new back.old back.new }
 {
-    let n = list.links.n as usize;
+    let n = list.nodes();
     let mut m = [0; CELLS];
     fill(&list.links, &mut m);
     let mut score = [OPEN; NODES];

@@ -15,9 +15,9 @@ fill-requires c =
 pub run-requires-clause-ready : goal.run-requires-clause-ready
 run-requires-clause-ready c =
     let g = given_by c.args.list.now.links in
-    (list_by c.args.list.now.links, all, passed_ready g c.args.list.now.words c.args.list.now.passed _ (c.fill.ensures g.n))
+    (list_by c.args.list.now.links, all, rw c.nodes-n.ensures (passed_ready g c.args.list.now.words c.args.list.now.passed _ (c.fill.ensures g.n)))
 
 pub returns : goal.returns
 returns c =
     let g = given_by c.args.list.now.links in
-    c.run.ensures _ _ (passed_ready g c.args.list.now.words c.args.list.now.passed _ (c.fill.ensures g.n))
+    rw c.nodes-n.ensures at (c.run.ensures (list_by c.args.list.now.links) all (rw c.nodes-n.ensures (passed_ready g c.args.list.now.words c.args.list.now.passed _ (c.fill.ensures g.n))))
