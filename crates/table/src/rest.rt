@@ -191,6 +191,7 @@ impl Rest {
         requires some { (1 ≤ nodes) × (nodes ≤ self.old.nodes) }
         requires below { (v : ℕ) → v < self.old.nodes → get_or name.now v 0 < nodes }
         ensures count { self.new.nodes ≡ nodes }
+        ensures squeezed { Squeezed self.old.rows name.now self.old.a self.old.b self.old.w self.new.a self.new.b self.new.w self.new.rows }
         ensures gathers { Gathers (left_of self.old) (left_of self.new) (λ v. get_or name.now v 0) }
     {
         self.rows = squeeze(self.rows, name, &mut self.a, &mut self.b, &mut self.w);

@@ -1,7 +1,6 @@
 -- `join_runs` meets its contract: the renamed rows are the list with one node for each run.
 use Rattle.std.proofs.Common.{arith}
-use Rattle.table.specs.Rest.{left_of}
-use Rattle.table.proofs.Sinking.{order_below, order_once, name_below, joined_none, begins_low, few_runs}
+use Rattle.table.proofs.Sinking.{order_below, order_once, name_below, begins_low, few_runs, joined}
 use Rattle.table.proofs.rest.Rest.join_runs.Goals as goal
 
 pub name_runs-nodes-requires-clause-begun : goal.name_runs-nodes-requires-clause-begun
@@ -21,14 +20,18 @@ rename-requires-clause-some c =
 pub rename-requires-clause-below : goal.rename-requires-clause-below
 rename-requires-clause-below c = name_below c.requires.shrinking c.name_runs-nodes.ensures
 
+-- what `joined` says of the list that is left, with its nodes as `rename` counts them
 pub returns-clause-smaller : goal.returns-clause-smaller
 returns-clause-smaller c =
-    let runs = few_runs c.requires in
+    let (q, small, fewer) = joined c.requires c.name_runs-nodes.ensures c.rename.ensures.squeezed in
+    let new = c.rename.new.self in
     record {
-      fewer = omega (arith, c.name_runs-nodes.ensures.begun, c.rename.ensures.count);
-      lower = omega arith;
-      none = joined_none c.requires.shrinking c.name_runs-nodes.ensures (left_of c.rename.new.self) c.rename.ensures.gathers;
+      fewer = omega (arith, small.fewer, c.rename.ensures.count);
+      lower = small.lower;
+      none = λ x le h. small.none x le (rw c.rename.ensures.count at h);
     }
 
 pub returns-clause-fewer : goal.returns-clause-fewer
-returns-clause-fewer c = omega (arith, few_runs c.requires, c.name_runs-nodes.ensures.begun, c.rename.ensures.count)
+returns-clause-fewer c =
+    let (q, small, fewer) = joined c.requires c.name_runs-nodes.ensures c.rename.ensures.squeezed in
+    omega (arith, fewer, c.rename.ensures.count)
