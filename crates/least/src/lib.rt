@@ -211,18 +211,16 @@ impl Groups {
     }
 }
 
-// The least split, or 16 with one node. Most often it is the first round's, which stands where no division is below it.
-fn split(list: &Checked<'_>) -> Result<Split, Refusal>
-    ensures { parted_paper result ≡ answered (when (eqb list.now.links.n 1) one_node 0)
-        (split_fields list.now.links.n (least0 (given_by list.now.links))) }
+// The least split of a list of two or more nodes. Most often it is the first round's, which stands where no division is below it. Not inlined:
+// what needs none of its tables does not pay for them.
+#[inline(never)]
+fn division(list: &Checked<'_>) -> Split
+    requires many { 2 ≤ list.now.links.n }
+    ensures { Notes list.now.links.n (least0 (given_by list.now.links)) result }
 {
     let n = list.nodes();
-    // what its checks say: n nodes fit the arrays below, and there is a last one
-    prove!(1 <= n);
+    // what its checks say: n nodes fit the arrays below
     prove!(n <= NODES);
-    if n == 1 {
-        return Err(Refusal::OneNode);
-    }
     let mut label = [0u16; NODES];
     table::number(&mut label);
     let mut order = [0u16; NODES];
@@ -233,7 +231,7 @@ fn split(list: &Checked<'_>) -> Result<Split, Refusal>
     let low = table::floor(list, &mut order, &mut back);
     if value <= low {
         let side = sides::side(&label[..n], last);
-        return Ok(Split { value, side });
+        return Split { value, side };
     }
     let mut groups = Groups {
         nodes: n,
@@ -242,7 +240,18 @@ fn split(list: &Checked<'_>) -> Result<Split, Refusal>
         label,
     };
     table::fill(&list.links, &mut groups.m);
-    Ok(groups.rounds(0, low))
+    groups.rounds(0, low)
+}
+
+// The least split, or 16 with one node.
+fn split(list: &Checked<'_>) -> Result<Split, Refusal>
+    ensures { parted_paper result ≡ answered (when (eqb list.now.links.n 1) one_node 0)
+        (split_fields list.now.links.n (least0 (given_by list.now.links))) }
+{
+    if list.links.n == 1 {
+        return Err(Refusal::OneNode);
+    }
+    Ok(division(list))
 }
 
 // ---- the calls

@@ -147,8 +147,9 @@ impl Text {
         }
     }
 
-    // All of its lines.
+    // All of its lines. Not inlined: the tables stand in its frame, and a file that is refused needs none.
     #[tactic(auto, using(crate::proofs::Listing::summary_made))]
+    #[inline(never)]
     fn list_lines(&mut self, list: &Checked<'_>)
         ensures adds { Adds self.old self.new (list_report (list_by list.now.links)) }
         ensures short { length (list_report (list_by list.now.links)) ≤ 1024 }
