@@ -36,9 +36,11 @@ fn same_before(list: &Checked<'_>, r: usize) -> u16
 }
 
 // The number of different pairs: the rows that have none like them before.
+#[tactic(auto, using(lists::proofs::Passed::accepted))]
 fn pairs_in(list: &Checked<'_>) -> usize
-    ensures { result ≡ count_by (λ r. same_before (list_by list.now.links) r == 0)
+    ensures counts { result ≡ count_by (λ r. same_before (list_by list.now.links) r == 0)
         (range_with_len 0 (length list.now.links.a.now)) }
+    ensures few { result ≤ 2048 }
 {
     (0..list.links.a.len())
         .filter(|&r| same_before(list, r) == 0)

@@ -1,8 +1,6 @@
 -- A list that passed has its links and pairs from what `links_in` and `pairs_in` ensure, by place (`total_by_place`, `count_by_place`).
-use Rattle.std.proofs.Common.{◌≡◌, ◌≤◌, ◌∙◌, ℕ, [], ◌∷◌, Bool, false, length, eqb, arith, sym}
+use Rattle.std.proofs.Common.{◌≡◌, ◌∙◌, ℕ, [], ◌∷◌, Bool, false, length, eqb, arith, sym}
 use Rattle.std.specs.List.{count_by, range_with_len, sum as total}
-use Rattle.std.proofs.lemmas.List.FromFn.{length-range_with_len}
-use Rattle.std.proofs.lemmas.List.Sums.{count_by-le-length}
 use Rattle.meaning.specs.Numbers.{fine, done}
 use Rattle.meaning.specs.Links.{Given, list_of, same_before, pairs, list_check}
 use Rattle.meaning.specs.Calls.{summary_answer}
@@ -15,12 +13,6 @@ use Rattle.summary.proofs.summary.Goals as goal
 abbrev new : Given → ℕ → Bool
 new g r = eqb (same_before (list_of g) r) 0
 
--- what `pairs_in` counts is no more than the rows
-few : (g : Given) {p : ℕ} → list_check g false ≡ fine → p ≡ count_by (new g) (range_with_len 0 (length g.la)) → p ≤ 2048
-few g passes counts =
-    let good = passed g false passes in
-    omega (arith, count_by-le-length (new g) (range_with_len 0 (length g.la)), length-range_with_len 0 (length g.la))
-
 -- the answer for a list that passed
 totals : (g : Given) {l p : ℕ} → list_check g false ≡ fine → l ≡ total g.lw
     → p ≡ count_by (new g) (range_with_len 0 (length g.la)) → done (g.n ∷ length g.la ∷ l ∷ p ∷ []) ≡ summary_answer g
@@ -28,12 +20,7 @@ unfolding pairs
 totals g passes adds counts =
     rw (adds ∙ total_by_place g.lw, counts ∙ count_by_place (new g) (length g.la), ← (passed g false passes).even.as_w, passes)
 
-pub overflow_cast-result : goal.overflow_cast-result
-overflow_cast-result c =
-    let bound = few (given_by c.args.links.now) (sym c.in_ok-list.ensures.found) (rw c.in_ok-list.ensures.same at c.pairs_in.ensures) in
-    omega arith
-
 pub returns : goal.returns
 returns c =
     totals (given_by c.args.links.now) (sym c.in_ok-list.ensures.found) c.links_in.ensures
-    (rw c.in_ok-list.ensures.same at c.pairs_in.ensures)
+    (omega (arith, rw c.in_ok-list.ensures.same at c.pairs_in.ensures.counts))
