@@ -24,7 +24,6 @@ rename-requires-clause-below c = name_below c.requires.shrinking c.name_runs-nod
 pub returns-clause-smaller : goal.returns-clause-smaller
 returns-clause-smaller c =
     let (q, small, fewer) = joined c.requires c.name_runs-nodes.ensures c.rename.ensures.squeezed in
-    let new = c.rename.new.self in
     record {
       fewer = omega (arith, small.fewer, c.rename.ensures.count);
       lower = small.lower;
