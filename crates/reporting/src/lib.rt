@@ -108,8 +108,9 @@ impl Text {
 // ---- the lines of a list that passed its checks
 
 impl Text {
-    // Line 2.
+    // Line 2. Not inlined: its table is gone before the split has its own.
     #[tactic(auto, using(lists::proofs::Passed::accepted))]
+    #[inline(never)]
     fn order_line(&mut self, list: &Checked<'_>)
         ensures adds { Adds self.old self.new (line order_text (order0 (given_by list.now.links))) }
         ensures short { length (line order_text (order0 (given_by list.now.links))) ≤ 408 }
